@@ -1,0 +1,31 @@
+-- The limits of a record (document 01, question 1; docs/DECISIONS.md, "A record's limits").
+use mathlib.Core.Bool.{Bool, _&&_}
+use mathlib.Core.Path.{_≡_}
+use Prim.Native.Nat.{ℕ, _+_, _≤_}
+use lib.Dec.{leb, ltb, eqb}
+use Rattle.keys.specs.Suites.{suiteKnown, widthOf}
+use Rattle.keys.specs.Traffic.{keyFits, follows}
+use Rattle.association.specs.declared.record.Assoc.{Assoc}
+
+-- 14 bits
+abbrev pub saidFits : ℕ → Bool
+saidFits said = leb said 16383
+
+-- The older's deadline is after the clock, by H at most; the newer's is H more
+unfoldable pub deadlinesFit : ℕ → ℕ → ℕ → ℕ → Bool
+deadlinesFit half clock older newer = ltb clock older && leb older (clock + half) && eqb newer (older + half)
+
+unfoldable pub recordFits : ℕ → ℕ → Assoc → Bool
+recordFits half clock a =
+    saidFits (a .said)
+    && suiteKnown (a .suite)
+    && keyFits (widthOf (a .suite)) (a .older)
+    && keyFits (widthOf (a .suite)) (a .newer)
+    && follows (a .older) (a .newer)
+    && deadlinesFit half clock (a .older .deadline) (a .newer .deadline)
+
+-- What the clock's rule needs so that no sum wraps; `RollLaws` shows that a record within the limits has it
+pub record Rollable (half t : ℕ) (a : Assoc) : Type 0 where
+  pub half-small : half ≤ 302400
+  pub clock-small : t ≤ 1000000000000
+  pub paced : a .newer .deadline ≡ a .older .deadline + half

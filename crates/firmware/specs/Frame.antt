@@ -1,0 +1,81 @@
+-- The frame decision for C (document 01, questions 1, 2 and 13; "C firmware calls the message and frame entry points").
+use mathlib.Core.Bool.{Bool, true, false, _&&_}
+use mathlib.Core.Path.{_≡_}
+use mathlib.Core.List.{List, [], _∷_}
+use Prim.Native.Nat.{ℕ, zero, suc}
+use lib.Dec.{leb, eqb}
+use lib.ListN.{length, take}
+use Rattle.keys.specs.declared.numbers.TekNumber.{TekNumber}
+use Rattle.keys.specs.declared.traffic.TrafficKey.{TrafficKey}
+use Rattle.keys.specs.declared.refusal.Refusal.the-variants.{OutOfLimits, WrongLength, NoKeyForFrame}
+use Rattle.keys.specs.declared.frame.Opening.{Opening}
+use Rattle.keys.specs.declared.frame.Opening.the-variants.{ByOlder, ByNewer, ByNeither}
+use Rattle.keys.specs.Numbers.{tekInRange}
+use Rattle.keys.specs.Suites.{widthKnown}
+use Rattle.keys.specs.Octets.{overlay}
+use Rattle.keys.specs.Traffic.{keyFrom, pairFits}
+use Rattle.keys.specs.Frame.{openingOf}
+use Rattle.keys.specs.Questions.{Question, firstNo}
+use Rattle.keys.specs.Refusal.{answerNumber}
+
+-- Question 1: the clock, the width, the frame's number, and the pair that is held
+unfoldable pub frameFits : ℕ → TrafficKey → TrafficKey → ℕ → TekNumber → Bool
+frameFits clock older newer w number =
+    leb clock 1000000000000 && widthKnown w && tekInRange number && pairFits w clock older newer
+
+-- Question 2: 64 octets of keys and vectors, and 16 or more for each of the two that are written
+unfoldable pub slicesFit : ℕ → ℕ → ℕ → Bool
+slicesFit keys tek vector = eqb keys 64 && leb 16 tek && leb 16 vector
+
+-- Question 13: a held key opens the frame
+abbrev pub isHeld : Opening → Bool
+isHeld ByOlder = true
+isHeld ByNewer = true
+isHeld ByNeither = false
+
+-- The key that opens the frame; where there is none the call is refused, and the key that stands here is not given out
+abbrev pub chosenOf : Opening → TrafficKey → TrafficKey → TrafficKey
+chosenOf ByOlder older newer = older
+chosenOf ByNewer older newer = newer
+chosenOf ByNeither older newer = older
+
+-- What the call answers, and what it writes at the front of the two lent slices
+pub record Given : Type 0 where
+  pub number : ℕ
+  pub tek : List ℕ
+  pub vector : List ℕ
+
+-- A refusal writes nothing
+abbrev pub given : ℕ → List ℕ → List ℕ → Given
+given zero tek vector = record { number = 0; tek = tek; vector = vector }
+given (suc n) tek vector = record { number = suc n; tek = []; vector = [] }
+
+unfoldable pub frameNumber : ℕ → TrafficKey → TrafficKey → ℕ → TekNumber → ℕ → ℕ → ℕ → ℕ
+frameNumber clock older newer w number keys tek vector =
+    answerNumber
+    (firstNo
+    (record { refusal = OutOfLimits; met = frameFits clock older newer w number }
+    ∷ record { refusal = WrongLength; met = slicesFit keys tek vector }
+    ∷ record { refusal = NoKeyForFrame; met = isHeld (openingOf clock number older newer) }
+    ∷ []))
+
+unfoldable pub decisionOf : ℕ → TrafficKey → TrafficKey → ℕ → TekNumber → ℕ → ℕ → ℕ → Given
+decisionOf clock older newer w number keys tek vector =
+    given (frameNumber clock older newer w number keys tek vector)
+    (take w (chosenOf (openingOf clock number older newer) older newer .tek))
+    (take w (chosenOf (openingOf clock number older newer) older newer .vector))
+
+abbrev tekOf : ℕ → TekNumber
+tekOf n = record { 0 = n }
+
+-- The pair is read from the 64 octets: TEK and vector of the older, then of the newer, 16 for each
+abbrev pub frameOf : ℕ → ℕ → ℕ → ℕ → ℕ → ℕ → List ℕ → ℕ → ℕ → ℕ → Given
+frameOf clock older-number older-deadline newer-number newer-deadline w keys number tek vector =
+    decisionOf clock (keyFrom keys 0 16 (tekOf older-number) older-deadline) (keyFrom keys 32 16 (tekOf newer-number) newer-deadline) w (tekOf number)
+    (length keys) tek vector
+
+-- The answer, and every octet of the two lent slices
+pub record Gives (g : Given) (tek vector : List ℕ) (answer : ℕ) (tek-after vector-after : List ℕ) : Type 0 where
+  pub answers : answer ≡ g .number
+  pub tek-holds : tek-after ≡ overlay tek (g .tek)
+  pub vector-holds : vector-after ≡ overlay vector (g .vector)

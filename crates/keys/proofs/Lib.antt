@@ -1,0 +1,4 @@
+pub mod OctetsLaws
+pub mod TestLaws
+pub mod ListLaws
+pub mod TrafficLaws

@@ -1,0 +1,21 @@
+-- Laws of the limits of held keys (`specs/Traffic.antt`).
+use mathlib.Core.Path.{_≡_, refl}
+use mathlib.Core.Bool.{Bool, true}
+use Prim.Native.Nat.{ℕ, _+_, _%_, _≤_}
+use native.Mathlib.Omega.{arith}
+use lib.Dec.{leb, eqb}
+use borrow.Author.Tests.{le-leb, eq-eqb}
+use Rattle.keys.specs.declared.numbers.TekNumber.{TekNumber}
+use Rattle.keys.specs.declared.traffic.TrafficKey.{TrafficKey}
+use Rattle.keys.specs.Numbers.{afterOf, tekNumber, tekInRange, sameTek}
+use Rattle.keys.specs.Traffic.{keyFits, follows}
+
+pub after-in-range : (n : TekNumber) (k : ℕ) → tekInRange (afterOf n k) ≡ true
+after-in-range n k =
+    let small : (n .0 + k) % 16 ≤ 15 = omega arith in
+    le-leb ((n .0 + k) % 16) 15 small
+
+pub next-follows : (n : TekNumber) (k : ℕ) → sameTek (afterOf n (k + 1)) (afterOf (afterOf n k) 1) ≡ true
+next-follows n k =
+    let same : (n .0 + (k + 1)) % 16 ≡ ((n .0 + k) % 16 + 1) % 16 = omega arith in
+    eq-eqb ((n .0 + (k + 1)) % 16) (((n .0 + k) % 16 + 1) % 16) same

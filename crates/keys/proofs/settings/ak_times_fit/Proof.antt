@@ -1,0 +1,10 @@
+use Rattle.keys.specs.Settings.{akTimesFit}
+use Rattle.keys.proofs.settings.ak_times_fit.Statement.{statement}
+use Rattle.keys.proofs.settings.ak_times_fit.Tie as tie
+
+returns : tie.Need-returns
+unfolding akTimesFit
+returns c = cc
+
+pub ak-times-fit-spec : {M : Type 1} → statement M
+ak-times-fit-spec = tie.close (tie.spec returns)

@@ -1,0 +1,18 @@
+use borrow.Author.Needs.{needs}
+use Rattle.keys.proofs.traffic.key_from.Statement.{statement}
+use Rattle.keys.proofs.traffic.key_from.Tie as tie
+
+octets-requires : tie.Need-octets-requires
+octets-requires c κs = search needs
+
+add-octets : tie.Need-add-octets
+add-octets c = search needs
+
+octets-requires-2 : tie.Need-octets-requires-2
+octets-requires-2 c κs = search needs
+
+returns : tie.Need-returns
+returns c = cc
+
+pub key-from-spec : {M : Type 1} → statement M
+key-from-spec = tie.close (tie.spec octets-requires add-octets octets-requires-2 returns)

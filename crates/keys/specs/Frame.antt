@@ -1,0 +1,21 @@
+-- Which held key opens a frame (document 01, "Traffic keys at the head-end", "Modem: TEK machine" and question 13).
+use mathlib.Core.Bool.{Bool, cond, _&&_, _||_}
+use Prim.Native.Nat.{ℕ}
+use lib.Dec.{ltb}
+use mathlib.Core.List.{List, []}
+use Rattle.keys.specs.declared.numbers.TekNumber.{TekNumber}
+use Rattle.keys.specs.declared.traffic.TrafficKey.{TrafficKey}
+use Rattle.keys.specs.declared.frame.Opening.{Opening}
+use Rattle.keys.specs.declared.frame.Opening.the-variants.{ByOlder, ByNewer, ByNeither}
+use Rattle.keys.specs.Numbers.{sameTek}
+
+-- A key opens frames of its number while its deadline is after the clock
+unfoldable pub serves : ℕ → TekNumber → TrafficKey → Bool
+serves clock number k = sameTek (k .number) number && ltb clock (k .deadline)
+
+-- Whichever held key has the frame's number and counts
+unfoldable pub openingOf : ℕ → TekNumber → TrafficKey → TrafficKey → Opening
+openingOf clock number older newer =
+    cond (serves clock number older) ByOlder
+    (cond (serves clock number newer) ByNewer
+    ByNeither)

@@ -1,0 +1,70 @@
+// A traffic key as either end holds it, and the limits of a held pair (question 1).
+ghost use mathlib.Core.Path.{_≡_};
+ghost use Prim.Native.Nat.{_+_, _<_};
+ghost use Rattle.keys.specs.Traffic.{keyFrom, keyFits, follows, inLongestLife, pairFits};
+use crate::numbers::TekNumber;
+use crate::numbers::same_tek;
+use crate::numbers::tek_after;
+use crate::numbers::tek_in_range;
+use crate::octets::octets;
+use crate::octets::zero_past;
+
+#[repr(C)]
+pub struct TrafficKey {
+    pub number: TekNumber,
+    pub deadline: u64,
+    pub tek: [u8; 16],
+    pub vector: [u8; 16],
+}
+
+// The key in the 32 octets of `m` at `at`, `w` octets wide.
+pub fn key_from(m: &[u8], at: usize, w: usize, number: TekNumber, deadline: u64) -> TrafficKey
+    requires { ⌜ at + 16 < 18446744073709551616 ⌝ }
+    ensures { λ r. ⌜ r ≡ keyFrom (now (m .entry)) at w number deadline ⌝ }
+{
+    let tek = octets(m, at, w);
+    let vector = octets(m, at + 16, w);
+    TrafficKey {
+        number: number,
+        deadline: deadline,
+        tek: tek,
+        vector: vector,
+    }
+}
+
+// A key's own limits, for keys of `w` octets.
+pub fn key_fits(k: TrafficKey, w: usize) -> bool
+    ensures { λ r. ⌜ r ≡ keyFits w k ⌝ }
+{
+    let tek = k.tek;
+    let vector = k.vector;
+    tek_in_range(k.number) & zero_past(tek, w) & zero_past(vector, w)
+}
+
+// Whether `newer` has the number after that of `older`.
+pub fn is_next(older: TrafficKey, newer: TrafficKey) -> bool
+    ensures { λ r. ⌜ r ≡ follows older newer ⌝ }
+{
+    same_tek(newer.number, tek_after(older.number, 1))
+}
+
+// The limits of a pair that an end holds at `clock`.
+pub fn pair_fits(older: TrafficKey, newer: TrafficKey, w: usize, clock: u64) -> bool
+    ensures { λ r. ⌜ r ≡ pairFits w clock older newer ⌝ }
+{
+    key_fits(older, w)
+        & key_fits(newer, w)
+        & is_next(older, newer)
+        & (older.deadline < newer.deadline)
+        & within(newer.deadline, clock)
+}
+
+// Whether a deadline is at most the longest TEK lifetime after `clock`; the sum is not formed, so it cannot wrap.
+fn within(deadline: u64, clock: u64) -> bool
+    ensures { λ r. ⌜ r ≡ inLongestLife clock deadline ⌝ }
+{
+    if deadline <= clock {
+        return true;
+    }
+    deadline - clock <= 604800
+}

@@ -1,0 +1,12 @@
+-- `is_digit` meets its contract.
+use mathlib.Core.Path.{refl}
+use Rattle.text.specs.Decimal.{isDigit}
+use Rattle.text.proofs.decimal.is_digit.Statement.{statement}
+use Rattle.text.proofs.decimal.is_digit.Tie as tie
+
+returns : tie.Need-returns
+unfolding isDigit
+returns c = refl
+
+pub is-digit-spec : {M : Type 1} → statement M
+is-digit-spec = tie.close (tie.spec returns)

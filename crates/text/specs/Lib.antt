@@ -1,0 +1,2 @@
+-- What the crate's functions answer.
+pub mod Decimal
