@@ -1,3 +1,4 @@
+-- `association::listing::is_named` meets its contract.
 use Rattle.association.specs.Listing.{namesOf}
 use Rattle.association.proofs.listing.is_named.Statement.{statement}
 use Rattle.association.proofs.listing.is_named.Tie as tie

@@ -1,3 +1,4 @@
+-- `association::listing::listed` meets its contract.
 use Rattle.association.specs.Listing.{freshOf}
 use borrow.Author.Needs.{needs}
 use Rattle.association.proofs.listing.listed.Statement.{statement}

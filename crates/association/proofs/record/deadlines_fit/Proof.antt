@@ -1,3 +1,4 @@
+-- `association::record::deadlines_fit` meets its contract.
 use Rattle.association.proofs.RecordLaws.{deadlines-past, deadlines-crossed, deadlines-asked}
 use borrow.Author.Needs.{needs}
 use Rattle.association.proofs.record.deadlines_fit.Statement.{statement}

@@ -1,3 +1,4 @@
+-- `association::record::record_fits` meets its contract.
 use Rattle.association.specs.Record.{recordFits}
 use borrow.Author.Needs.{needs}
 use Rattle.association.proofs.record.record_fits.Statement.{statement}

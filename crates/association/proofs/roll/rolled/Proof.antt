@@ -1,3 +1,4 @@
+-- `association::roll::rolled` meets its contract.
 use Rattle.association.specs.Roll.{rolledOf}
 use borrow.Author.Tests.{lt-ltb, le-ltb}
 use borrow.Author.Needs.{needs}

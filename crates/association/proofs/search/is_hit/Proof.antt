@@ -1,3 +1,4 @@
+-- `association::search::is_hit` meets its contract.
 use Rattle.association.specs.declared.search.Probe.{Probe}
 use Rattle.association.specs.Search.{hitOf}
 use mathlib.Core.Bool.{not}

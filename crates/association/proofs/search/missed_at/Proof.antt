@@ -1,3 +1,4 @@
+-- `association::search::missed_at` meets its contract.
 use borrow.Author.Needs.{needs}
 use Rattle.association.proofs.search.missed_at.Statement.{statement}
 use Rattle.association.proofs.search.missed_at.Tie as tie

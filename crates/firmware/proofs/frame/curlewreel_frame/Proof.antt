@@ -1,3 +1,4 @@
+-- `firmware::frame::curlewreel_frame` meets its contract.
 use Prim.Native.Nat.{_≤_}
 use Rattle.firmware.proofs.FrameLaws.{limits-refused, lengths-refused, none-refused, key-given, width-small, slices-long, of-pair}
 use lib.ListN.{length}

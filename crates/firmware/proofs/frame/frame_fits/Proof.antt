@@ -1,3 +1,4 @@
+-- `firmware::frame::frame_fits` meets its contract.
 use Rattle.firmware.specs.Frame.{frameFits}
 use borrow.Author.Needs.{needs}
 use Rattle.firmware.proofs.frame.frame_fits.Statement.{statement}

@@ -1,3 +1,4 @@
+-- `firmware::frame::slices_fit` meets its contract.
 use Rattle.firmware.specs.Frame.{slicesFit}
 use Rattle.firmware.proofs.frame.slices_fit.Statement.{statement}
 use Rattle.firmware.proofs.frame.slices_fit.Tie as tie

@@ -1,3 +1,4 @@
+-- `keys::frame::decide` meets its contract.
 use Rattle.keys.specs.Frame.{openingOf}
 use mathlib.Core.Path.{sym, _∙_}
 use borrow.Author.Needs.{needs}

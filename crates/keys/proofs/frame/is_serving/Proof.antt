@@ -1,3 +1,4 @@
+-- `keys::frame::is_serving` meets its contract.
 use Rattle.keys.specs.Frame.{serves}
 use borrow.Author.Needs.{needs}
 use Rattle.keys.proofs.frame.is_serving.Statement.{statement}

@@ -1,3 +1,4 @@
+-- `keys::numbers::tek_after` meets its contract.
 use native.Mathlib.Omega.{arith}
 use Prim.Native.Nat.{ℕ, _+_, _%_}
 use mathlib.Core.Path.{_≡_, ap}

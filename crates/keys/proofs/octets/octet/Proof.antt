@@ -1,3 +1,4 @@
+-- `keys::octets::octet` meets its contract.
 use mathlib.Core.Path.{sym}
 use native.Mathlib.Omega.{arith}
 use Rattle.keys.proofs.OctetsLaws.{octet-in, octet-past-width, octet-past-end}

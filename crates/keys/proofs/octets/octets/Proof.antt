@@ -1,3 +1,4 @@
+-- `keys::octets::octets` meets its contract.
 use Rattle.keys.proofs.OctetsLaws.{octets-length, copied-none, copied-more}
 use Rattle.keys.specs.Octets.{octetsOf}
 use lib.Seq.{take-all}

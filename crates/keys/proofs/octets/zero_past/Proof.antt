@@ -1,3 +1,4 @@
+-- `keys::octets::zero_past` meets its contract.
 use Rattle.keys.proofs.OctetsLaws.{zero-end, zero-here, zero-not}
 use mathlib.Core.Path.{sym, _∙_}
 use borrow.Author.Needs.{needs}

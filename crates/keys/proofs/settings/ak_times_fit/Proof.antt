@@ -1,3 +1,4 @@
+-- `keys::settings::ak_times_fit` meets its contract.
 use Rattle.keys.specs.Settings.{akTimesFit}
 use Rattle.keys.proofs.settings.ak_times_fit.Statement.{statement}
 use Rattle.keys.proofs.settings.ak_times_fit.Tie as tie

@@ -1,3 +1,4 @@
+-- `keys::settings::life_fits` meets its contract.
 use Rattle.keys.specs.Settings.{lifeFits}
 use Rattle.keys.proofs.settings.life_fits.Statement.{statement}
 use Rattle.keys.proofs.settings.life_fits.Tie as tie

@@ -1,3 +1,4 @@
+-- `keys::settings::settings_fit` meets its contract.
 use Rattle.keys.specs.Settings.{settingsFit}
 use borrow.Author.Needs.{needs}
 use Rattle.keys.proofs.settings.settings_fit.Statement.{statement}

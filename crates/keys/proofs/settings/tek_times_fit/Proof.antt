@@ -1,3 +1,4 @@
+-- `keys::settings::tek_times_fit` meets its contract.
 use Rattle.keys.specs.Settings.{tekTimesFit}
 use borrow.Author.Needs.{needs}
 use Rattle.keys.proofs.settings.tek_times_fit.Statement.{statement}

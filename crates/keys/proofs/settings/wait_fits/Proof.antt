@@ -1,3 +1,4 @@
+-- `keys::settings::wait_fits` meets its contract.
 use Rattle.keys.specs.Settings.{waitFits}
 use Rattle.keys.proofs.settings.wait_fits.Statement.{statement}
 use Rattle.keys.proofs.settings.wait_fits.Tie as tie

@@ -1,3 +1,4 @@
+-- `keys::settings::waits_fit` meets its contract.
 use Rattle.keys.specs.Settings.{waitsFit}
 use borrow.Author.Needs.{needs}
 use Rattle.keys.proofs.settings.waits_fit.Statement.{statement}

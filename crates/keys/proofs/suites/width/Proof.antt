@@ -1,3 +1,4 @@
+-- `keys::suites::width` meets its contract.
 use Rattle.keys.specs.Suites.{widthOf}
 use borrow.Author.Tests.{eq-eqb, ne-eqb}
 use native.Mathlib.Omega.{arith}

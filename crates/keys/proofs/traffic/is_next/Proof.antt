@@ -1,3 +1,4 @@
+-- `keys::traffic::is_next` meets its contract.
 use Rattle.keys.specs.Traffic.{follows}
 use borrow.Author.Needs.{needs}
 use Rattle.keys.proofs.traffic.is_next.Statement.{statement}

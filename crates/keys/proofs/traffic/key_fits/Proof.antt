@@ -1,3 +1,4 @@
+-- `keys::traffic::key_fits` meets its contract.
 use Rattle.keys.specs.Traffic.{keyFits}
 use borrow.Author.Needs.{needs}
 use Rattle.keys.proofs.traffic.key_fits.Statement.{statement}

@@ -1,3 +1,4 @@
+-- `keys::traffic::key_from` meets its contract.
 use borrow.Author.Needs.{needs}
 use Rattle.keys.proofs.traffic.key_from.Statement.{statement}
 use Rattle.keys.proofs.traffic.key_from.Tie as tie

@@ -1,3 +1,4 @@
+-- `keys::traffic::pair_fits` meets its contract.
 use Rattle.keys.specs.Traffic.{pairFits}
 use borrow.Author.Needs.{needs}
 use Rattle.keys.proofs.traffic.pair_fits.Statement.{statement}

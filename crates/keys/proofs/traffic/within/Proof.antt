@@ -1,3 +1,4 @@
+-- `keys::traffic::within` meets its contract.
 use Rattle.keys.specs.Traffic.{inLongestLife}
 use Rattle.keys.proofs.TestLaws.{sub-leb, le-sum}
 use native.Mathlib.Omega.{arith}

@@ -1,0 +1,56 @@
+-- The table of the edges that bear a P (document 01, "Edges"): L = 1,800, so H = 900, and a SAID is listed at second 0. The SAID, its
+-- suite, the octets k lent with the listing and m lent with the clock call are any.
+use mathlib.Core.Path.{_≡_}
+use Prim.Native.Nat.{ℕ}
+use mathlib.Core.List.{List, [], _∷_}
+use Rattle.keys.specs.declared.traffic.TrafficKey.{TrafficKey}
+use Rattle.association.specs.declared.record.Assoc.{Assoc}
+use Rattle.association.specs.Roll.{rolledOf}
+use Rattle.association.specs.Listing.{freshOf}
+use Rattle.association.specs.Made.{Made, SaidSuite, Line, madeAt, listedLine, mints, lineTo, keyOf}
+
+-- The record of a listing at 0, and the keys that it made
+abbrev pub listed : SaidSuite → List ℕ → Assoc
+listed s k = freshOf 900 0 k 0 (s .said) (s .suite)
+
+abbrev pub line : SaidSuite → List ℕ → Line
+line s k = listedLine 900 0 k 0 s
+
+-- A generation minted at a second from 32 octets of m at a place
+abbrev pub generation : SaidSuite → ℕ → ℕ → ℕ → List ℕ → ℕ → Made
+generation s g second deadline m at = madeAt (s .said) (s .suite) g second deadline m at
+
+-- A record that holds two generations
+abbrev pub holding : SaidSuite → Made → Made → Assoc
+holding s older newer = record { said = s .said; suite = s .suite; older = keyOf older; newer = keyOf newer }
+
+-- The line after clock calls at these seconds
+abbrev pub clocked : List ℕ → List ℕ → Line → Line
+clocked m [] l = l
+clocked m (t ∷ ts) l = clocked m ts (lineTo 900 t m 0 l)
+
+-- Fifteen clock calls, every H
+abbrev pub seconds : List ℕ
+seconds =
+    900 ∷ 1800 ∷ 2700 ∷ 3600 ∷ 4500 ∷ 5400 ∷ 6300 ∷ 7200 ∷ 8100 ∷ 9000 ∷ 9900 ∷ 10800 ∷ 11700 ∷ 12600 ∷ 13500 ∷ []
+
+pub record Edges : Type 0 where
+  -- clock 899: nothing
+  pub clock-899 : (s : SaidSuite) (k m : List ℕ) → rolledOf 900 899 m 0 (listed s k) ≡ listed s k
+  pub clock-899-mints : (s : SaidSuite) (k m : List ℕ) → mints 900 899 m 0 (line s k) ≡ []
+  -- 900: generation 2, deadline 2,700
+  pub clock-900 : (s : SaidSuite) (k m : List ℕ)
+      → rolledOf 900 900 m 0 (listed s k) ≡ holding s (generation s 1 0 1800 k 32) (generation s 2 900 2700 m 0)
+  pub clock-900-mints : (s : SaidSuite) (k m : List ℕ) → mints 900 900 m 0 (line s k) ≡ generation s 2 900 2700 m 0 ∷ []
+  -- 0 to 1,799: generation 2, deadline 2,700
+  pub clock-1799 : (s : SaidSuite) (k m : List ℕ)
+      → rolledOf 900 1799 m 0 (listed s k) ≡ holding s (generation s 1 0 1800 k 32) (generation s 2 1799 2700 m 0)
+  pub clock-1799-mints : (s : SaidSuite) (k m : List ℕ) → mints 900 1799 m 0 (line s k) ≡ generation s 2 1799 2700 m 0 ∷ []
+  -- 0 to 1,800: generations 2 and 3, deadlines 2,700 and 3,600
+  pub clock-1800 : (s : SaidSuite) (k m : List ℕ)
+      → rolledOf 900 1800 m 0 (listed s k) ≡ holding s (generation s 2 1800 2700 m 0) (generation s 3 1800 3600 m 32)
+  pub clock-1800-mints : (s : SaidSuite) (k m : List ℕ)
+      → mints 900 1800 m 0 (line s k) ≡ generation s 2 1800 2700 m 0 ∷ generation s 3 1800 3600 m 32 ∷ []
+  -- generation 16: number 0. Fifteen clock calls every H make it, and the key that a record shows of it has number 0
+  pub sixteenth : (s : SaidSuite) (k m : List ℕ) → clocked m seconds (line s k) .newer ≡ generation s 16 13500 15300 m 0
+  pub sixteenth-number : (s : SaidSuite) (k m : List ℕ) → keyOf (clocked m seconds (line s k) .newer) .number ≡ record { 0 = 0 }

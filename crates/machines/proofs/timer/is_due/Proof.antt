@@ -1,0 +1,10 @@
+use Rattle.machines.specs.Timers.{isDue}
+use Rattle.machines.proofs.timer.is_due.Statement.{statement}
+use Rattle.machines.proofs.timer.is_due.Tie as tie
+
+returns : tie.Need-returns
+unfolding isDue
+returns c = cc
+
+pub is-due-spec : {M : Type 1} → statement M
+is-due-spec = tie.close (tie.spec returns)

@@ -1,0 +1,5 @@
+pub mod Transitions
+pub mod Identifier
+pub mod Timers
+pub mod Tek
+pub mod Authorization

@@ -1,0 +1,69 @@
+-- The modem's calls: the questions in document 01's order, and what is done where all are met.
+use Prim.Native.Nat.{ℕ}
+use mathlib.Core.Bool.{Bool, _&&_, not}
+use mathlib.Core.List.{List, [], _∷_, _++_}
+use lib.Dec.{leb, ltb}
+use lib.ListN.{length}
+use Rattle.keys.specs.declared.refusal.Answer.{Answer}
+use Rattle.keys.specs.declared.refusal.Answer.the-variants.{Done, Refused}
+use Rattle.keys.specs.declared.refusal.Refusal.the-variants.{OutOfLimits, WrongLength, ClockOutOfOrder}
+use Rattle.keys.specs.declared.settings.Settings.{Settings}
+use Rattle.keys.specs.Questions.{Question, firstNo}
+use Rattle.keys.specs.Settings.{settingsFit}
+use Rattle.modem.specs.declared.state.Modem.{Modem}
+use Rattle.modem.specs.declared.state.Work.{Work}
+use Rattle.modem.specs.declared.state.Called.{Called}
+use Rattle.modem.specs.State.{freshOf, noSettings, starting}
+use Rattle.modem.specs.Limits.{modemFits}
+use Rattle.modem.specs.Machine.{plainEvent}
+use Rattle.modem.specs.Clock.{clocked}
+use Rattle.modem.specs.Receive.{receiveQuestions, received, fieldsIn}
+use Rattle.modem.specs.Messages.{outOctets}
+
+-- What a call gives: a refusal changes and writes nothing
+pub record Result : Type 0 where
+  pub called : Called
+  pub written : List ℕ
+
+abbrev pub resultOf : Answer → Modem → Work → Result
+resultOf Done m w =
+    record { called = record { answer = Done; modem = w .modem; count = length (outOctets (w .out)) }; written = outOctets (w .out) }
+resultOf (Refused r) m w = record { called = record { answer = Refused r; modem = m; count = 0 }; written = [] }
+
+-- Questions 1 and 2 of every call but `new`: the state, and 216 octets for messages
+abbrev pub firstQuestions : Modem → ℕ → List Question
+firstQuestions m lent =
+    record { refusal = OutOfLimits; met = modemFits m } ∷ record { refusal = WrongLength; met = leb 216 lent } ∷ []
+
+-- A fresh modem: question 1 of the settings, the address and its own SAID
+unfoldable pub newQuestions : Settings → ℕ → ℕ → List Question
+newQuestions settings address said =
+    record { refusal = OutOfLimits; met = settingsFit settings && ltb address 281474976710656 && leb said 16383 } ∷ []
+
+abbrev pub newFor : Answer → Settings → ℕ → ℕ → Called
+newFor Done settings address said = record { answer = Done; modem = freshOf settings address said; count = 0 }
+newFor (Refused r) settings address said = record { answer = Refused r; modem = freshOf noSettings 0 0; count = 0 }
+
+unfoldable pub newOf : Settings → ℕ → ℕ → Called
+newOf settings address said = newFor (firstNo (newQuestions settings address said)) settings address said
+
+-- established (event 1) and reauth (event 8)
+unfoldable pub eventOf : ℕ → Modem → ℕ → Result
+eventOf event m lent = resultOf (firstNo (firstQuestions m lent)) m (plainEvent (starting m) event)
+
+abbrev pub establishedOf : Modem → ℕ → Result
+establishedOf m lent = eventOf 1 m lent
+
+abbrev pub reauthOf : Modem → ℕ → Result
+reauthOf m lent = eventOf 8 m lent
+
+-- Question 3: the clock is not earlier than the last and at most 10^12
+unfoldable pub clockFits : Modem → ℕ → Bool
+clockFits m t = leb (m .clock) t && leb t 1000000000000
+
+unfoldable pub clockOf : Modem → ℕ → ℕ → Result
+clockOf m t lent =
+    resultOf (firstNo (firstQuestions m lent ++ (record { refusal = ClockOutOfOrder; met = clockFits m t } ∷ []))) m (clocked m t)
+
+unfoldable pub receiveOf : Modem → List ℕ → Bool → ℕ → Result
+receiveOf m s digest lent = resultOf (firstNo (firstQuestions m lent ++ receiveQuestions m s digest)) m (received m (fieldsIn s))

@@ -1,0 +1,9 @@
+pub mod State
+pub mod Limits
+pub mod Slots
+pub mod Relist
+pub mod Machine
+pub mod Clock
+pub mod Receive
+pub mod Messages
+pub mod Calls

@@ -1,0 +1,83 @@
+-- Question 1 of the modem's state (document 01, question 1; docs/DECISIONS.md, "Limits of the modem's state").
+use Prim.Native.Nat.{ℕ, _+_}
+use mathlib.Core.Bool.{Bool, true, cond, _&&_, _||_, not}
+use mathlib.Core.List.{List, [], _∷_}
+use lib.Dec.{eqb, leb, ltb}
+use lib.ListN.{take}
+use Rattle.keys.specs.Settings.{settingsFit}
+use Rattle.keys.specs.Suites.{suiteKnown, widthOf}
+use Rattle.keys.specs.Octets.{allZero}
+use Rattle.keys.specs.Traffic.{pairFits}
+use Rattle.keys.specs.declared.settings.Waits.{Waits}
+use Rattle.keys.specs.declared.traffic.TrafficKey.{TrafficKey}
+use Rattle.wire.specs.Messages.{different}
+use Rattle.machines.specs.declared.authorization.Authorization.{Authorization}
+use Rattle.machines.specs.declared.tek.Pair.{Pair}
+use Rattle.machines.specs.declared.tek.Tek.{Tek}
+use Rattle.machines.specs.declared.timer.Timer.{Timer}
+use Rattle.machines.specs.Transitions.{A, B, D, E, F}
+use Rattle.modem.specs.declared.state.Modem.{Modem}
+use Rattle.modem.specs.State.{slotAt}
+
+-- A timer that has to be on is on, at a second up to a bound; one that has not is off and zero
+unfoldable pub timerFits : Bool → ℕ → Timer → Bool
+timerFits must most t = cond must (eqb (t .on) 1 && leb (t .at) most) (eqb (t .on) 0 && eqb (t .at) 0)
+
+-- On in B, C, D and E, off in A and F, at most 12,096,000 s ahead; the key's number is 0 to 15
+unfoldable pub authorizationFits : ℕ → Authorization → Bool
+authorizationFits clock a =
+    leb (a .state) 5
+    && leb (a .ak .0) 15
+    && timerFits (not (eqb (a .state) A || eqb (a .state) F)) (clock + 12096000) (a .timer)
+
+unfoldable pub keyZero : TrafficKey → Bool
+keyZero k = eqb (k .number .0) 0 && eqb (k .deadline) 0 && allZero (k .tek) && allZero (k .vector)
+
+-- Keys are held in D, E and F and in no other state; a pair that is not held is all zero
+unfoldable pub pairHeldFits : Bool → ℕ → ℕ → Pair → Bool
+pairHeldFits must w clock p =
+    cond must (eqb (p .held) 1 && pairFits w clock (p .older) (p .newer)) (eqb (p .held) 0 && keyZero (p .older) && keyZero (p .newer))
+
+-- How far ahead a timer may be: the wait in B and E, the longest TEK life in D
+unfoldable pub longestWait : Waits → ℕ → ℕ
+longestWait w state = cond (eqb state B) (w .operational) (cond (eqb state E) (w .rekey) 604800)
+
+-- A slot in use
+unfoldable pub tekFits : Waits → ℕ → Tek → Bool
+tekFits w clock t =
+    leb (t .said) 16383
+    && suiteKnown (t .suite)
+    && leb (t .state) 5
+    && timerFits (eqb (t .state) B || eqb (t .state) D || eqb (t .state) E) (clock + longestWait w (t .state)) (t .timer)
+    && pairHeldFits (leb D (t .state)) (widthOf (t .suite)) clock (t .pair)
+
+-- A slot not in use
+unfoldable pub tekZero : Tek → Bool
+tekZero t =
+    eqb (t .said) 0
+    && eqb (t .suite) 0
+    && eqb (t .state) 0
+    && eqb (t .identifier) 0
+    && timerFits (leb 1 0) 0 (t .timer)
+    && pairHeldFits (leb 1 0) 0 0 (t .pair)
+
+unfoldable pub slotFits : Modem → ℕ → Bool
+slotFits m i = cond (ltb i (m .used)) (tekFits (m .settings .waits) (m .clock) (slotAt m i)) (tekZero (slotAt m i))
+
+unfoldable pub saidsOfTeks : List Tek → List ℕ
+saidsOfTeks [] = []
+saidsOfTeks (t ∷ ts) = t .said ∷ saidsOfTeks ts
+
+unfoldable pub modemFits : Modem → Bool
+modemFits m =
+    settingsFit (m .settings)
+    && leb (m .clock) 1000000000000
+    && ltb (m .address) 281474976710656
+    && leb (m .said) 16383
+    && authorizationFits (m .clock) (m .authorization)
+    && leb (m .used) 4
+    && slotFits m 0
+    && slotFits m 1
+    && slotFits m 2
+    && slotFits m 3
+    && different (saidsOfTeks (take (m .used) (m .teks)))

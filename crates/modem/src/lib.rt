@@ -1,0 +1,3 @@
+// The modem: both machines and its calls, by value. Each call asks its questions in document 01's order and has no `requires`; its
+// contract equates the answer, the state and every lent octet with a definition of specs/Calls.antt.
+pub mod state;

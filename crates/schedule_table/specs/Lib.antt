@@ -1,0 +1,3 @@
+-- What the crate's functions answer and write.
+pub mod Schedule
+pub mod Print
