@@ -50,11 +50,14 @@ replied m f =
     cond (eqb (m .authorization .state) D) (relisted f (authTold (starting m) 4 (f .ak) (f .life)))
     (listedAnew f (authTold (starting m) 4 (f .ak) (f .life)))
 
--- A Reject, with error 6 or another: D-E and D-F stop all TEK machines
+-- A Reject is event 3 with error 6, event 2 with any other
+unfoldable pub rejectEvent : ℕ → ℕ
+rejectEvent error = cond (eqb error 6) 3 2
+
+-- D-E and D-F stop all TEK machines
 unfoldable pub rejected : Modem → ℕ → Work
 rejected m error =
-    cond (eqb (m .authorization .state) D) (toldAll 4 1 (plainEvent (starting m) (cond (eqb error 6) 3 2)))
-    (plainEvent (starting m) (cond (eqb error 6) 3 2))
+    cond (eqb (m .authorization .state) D) (toldAll 4 1 (plainEvent (starting m) (rejectEvent error))) (plainEvent (starting m) (rejectEvent error))
 
 -- An Authorization Invalid: in C and D it tells Pend to the first machine by slot whose waiting request it answers; Identifier 0
 -- answers none

@@ -64,5 +64,8 @@ abbrev pub isWaiting : Tek → Bool
 isWaiting t = eqb (t .state) B || eqb (t .state) E
 
 -- the first slot whose waiting request has an Identifier
+abbrev pub asking : ℕ → Tek → Bool
+asking identifier t = isWaiting t && eqb (t .identifier) identifier
+
 abbrev pub slotAsking : Modem → ℕ → ℕ
-slotAsking m identifier = firstSlot (λ t. isWaiting t && eqb (t .identifier) identifier) m
+slotAsking m identifier = firstSlot (asking identifier) m

@@ -1,11 +1,12 @@
 -- The modem's state with parts exchanged, and the messages of one call.
-use Prim.Native.Nat.{ℕ, _+_}
+use Prim.Native.Nat.{ℕ, _+_, _≤_}
 use mathlib.Core.Bool.{cond}
 use mathlib.Core.List.{List, []}
 use lib.Dec.{eqb, leb}
 use lib.ListN.{getD, set, replicate}
 use Rattle.keys.specs.declared.numbers.AkNumber.{AkNumber}
 use Rattle.keys.specs.declared.settings.Settings.{Settings}
+use Rattle.keys.specs.declared.settings.Waits.{Waits}
 use Rattle.keys.specs.declared.traffic.TrafficKey.{TrafficKey}
 use Rattle.machines.specs.declared.authorization.Authorization.{Authorization}
 use Rattle.machines.specs.declared.tek.Pair.{Pair}
@@ -101,3 +102,15 @@ noSettings =
       ak = record { life = 0; grace = 0 };
       waits = record { authorize = 0; reauthorize = 0; operational = 0; rekey = 0; reject = 0 };
     }
+
+-- ---- what a step asks so that no sum wraps; it is about the clock and the settings, which no step changes
+pub record ReadyAt (clock : ℕ) (w : Waits) : Type 0 where
+  pub clock-small : clock ≤ 1000000000000
+  pub authorize-small : w .authorize ≤ 600
+  pub reauthorize-small : w .reauthorize ≤ 600
+  pub operational-small : w .operational ≤ 600
+  pub rekey-small : w .rekey ≤ 600
+  pub reject-small : w .reject ≤ 600
+
+abbrev pub Ready : Modem → Type 0
+Ready m = ReadyAt (m .clock) (m .settings .waits)
