@@ -21,15 +21,11 @@ keyFits w k = tekInRange (k .number) && zeroPast w (k .tek) && zeroPast w (k .ve
 unfoldable pub follows : TrafficKey → TrafficKey → Bool
 follows older newer = sameTek (newer .number) (afterOf (older .number) 1)
 
--- No key lives longer than the longest TEK lifetime
-unfoldable pub inLongestLife : ℕ → ℕ → Bool
-inLongestLife clock deadline = leb deadline (clock + 604800)
-
--- A pair that either end may hold at a clock
+-- A pair that either end may hold at a clock: no key lives longer than the longest TEK lifetime
 unfoldable pub pairFits : ℕ → ℕ → TrafficKey → TrafficKey → Bool
 pairFits w clock older newer =
     keyFits w older
     && keyFits w newer
     && follows older newer
     && ltb (older .deadline) (newer .deadline)
-    && inLongestLife clock (newer .deadline)
+    && leb (newer .deadline) (clock + 604800)

@@ -1,7 +1,8 @@
 // A traffic key as either end holds it, and the limits of a held pair (question 1).
 ghost use mathlib.Core.Path.{_≡_};
 ghost use Prim.Native.Nat.{_+_, _<_};
-ghost use Rattle.keys.specs.Traffic.{keyFrom, keyFits, follows, inLongestLife, pairFits};
+ghost use lib.Dec.{leb};
+ghost use Rattle.keys.specs.Traffic.{keyFrom, keyFits, follows, pairFits};
 use crate::numbers::TekNumber;
 use crate::numbers::same_tek;
 use crate::numbers::tek_after;
@@ -56,15 +57,15 @@ pub fn pair_fits(older: TrafficKey, newer: TrafficKey, w: usize, clock: u64) -> 
         & key_fits(newer, w)
         & is_next(older, newer)
         & (older.deadline < newer.deadline)
-        & within(newer.deadline, clock)
+        & is_within(newer.deadline, clock, 604800)
 }
 
-// Whether a deadline is at most the longest TEK lifetime after `clock`; the sum is not formed, so it cannot wrap.
-fn within(deadline: u64, clock: u64) -> bool
-    ensures { λ r. ⌜ r ≡ inLongestLife clock deadline ⌝ }
+// Whether a second is at most `ahead` after `clock`; the sum is not formed, so it cannot wrap.
+pub fn is_within(at: u64, clock: u64, ahead: u64) -> bool
+    ensures { λ r. ⌜ r ≡ leb at (clock + ahead) ⌝ }
 {
-    if deadline <= clock {
+    if at <= clock {
         return true;
     }
-    deadline - clock <= 604800
+    at - clock <= ahead
 }

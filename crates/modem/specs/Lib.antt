@@ -1,4 +1,5 @@
 pub mod State
+pub mod Apart
 pub mod Limits
 pub mod Slots
 pub mod Relist

@@ -1,6 +1,6 @@
 -- Question 1 of the modem's state (document 01, question 1; docs/DECISIONS.md, "Limits of the modem's state").
 use Prim.Native.Nat.{ℕ, _+_}
-use mathlib.Core.Bool.{Bool, true, cond, _&&_, _||_, not}
+use mathlib.Core.Bool.{Bool, true, false, cond, _&&_, _||_, not}
 use mathlib.Core.List.{List, [], _∷_}
 use lib.Dec.{eqb, leb, ltb}
 use lib.ListN.{take}
@@ -19,16 +19,16 @@ use Rattle.machines.specs.Transitions.{A, B, D, E, F}
 use Rattle.modem.specs.declared.state.Modem.{Modem}
 use Rattle.modem.specs.State.{slotAt}
 
--- A timer that has to be on is on, at a second up to a bound; one that has not is off and zero
-unfoldable pub timerFits : Bool → ℕ → Timer → Bool
-timerFits must most t = cond must (eqb (t .on) 1 && leb (t .at) most) (eqb (t .on) 0 && eqb (t .at) 0)
+-- A timer that has to be on is on, at most so many seconds ahead of the clock; one that has not is off and zero
+unfoldable pub timerFits : Bool → ℕ → ℕ → Timer → Bool
+timerFits must clock ahead t = cond must (eqb (t .on) 1 && leb (t .at) (clock + ahead)) (eqb (t .on) 0 && eqb (t .at) 0)
 
 -- On in B, C, D and E, off in A and F, at most 12,096,000 s ahead; the key's number is 0 to 15
 unfoldable pub authorizationFits : ℕ → Authorization → Bool
 authorizationFits clock a =
     leb (a .state) 5
     && leb (a .ak .0) 15
-    && timerFits (not (eqb (a .state) A || eqb (a .state) F)) (clock + 12096000) (a .timer)
+    && timerFits (not (eqb (a .state) A || eqb (a .state) F)) clock 12096000 (a .timer)
 
 unfoldable pub keyZero : TrafficKey → Bool
 keyZero k = eqb (k .number .0) 0 && eqb (k .deadline) 0 && allZero (k .tek) && allZero (k .vector)
@@ -48,7 +48,7 @@ tekFits w clock t =
     leb (t .said) 16383
     && suiteKnown (t .suite)
     && leb (t .state) 5
-    && timerFits (eqb (t .state) B || eqb (t .state) D || eqb (t .state) E) (clock + longestWait w (t .state)) (t .timer)
+    && timerFits (eqb (t .state) B || eqb (t .state) D || eqb (t .state) E) clock (longestWait w (t .state)) (t .timer)
     && pairHeldFits (leb D (t .state)) (widthOf (t .suite)) clock (t .pair)
 
 -- A slot not in use
@@ -58,8 +58,8 @@ tekZero t =
     && eqb (t .suite) 0
     && eqb (t .state) 0
     && eqb (t .identifier) 0
-    && timerFits (leb 1 0) 0 (t .timer)
-    && pairHeldFits (leb 1 0) 0 0 (t .pair)
+    && timerFits false 0 0 (t .timer)
+    && pairHeldFits false 0 0 (t .pair)
 
 unfoldable pub slotFits : Modem → ℕ → Bool
 slotFits m i = cond (ltb i (m .used)) (tekFits (m .settings .waits) (m .clock) (slotAt m i)) (tekZero (slotAt m i))

@@ -13,8 +13,8 @@ key-fits-requires-2 c κs = search needs
 is-next-requires : tie.Need-is-next-requires
 is-next-requires c κs = search needs
 
-within-requires : tie.Need-within-requires
-within-requires c κs = search needs
+is-within-requires : tie.Need-is-within-requires
+is-within-requires c κs = search needs
 
 returns : tie.Need-returns
 unfolding pairFits
@@ -23,4 +23,4 @@ returns c = cc
 pub pair-fits-spec : {M : Type 1} → statement M
 pair-fits-spec =
     tie.close
-    (tie.spec key-fits-requires key-fits-requires-2 is-next-requires within-requires returns)
+    (tie.spec key-fits-requires key-fits-requires-2 is-next-requires is-within-requires returns)
