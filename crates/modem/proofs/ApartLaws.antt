@@ -9,7 +9,7 @@ use lib.Seq.{take-nil}
 use borrow.Author.Tests.{lt-leb}
 use Rattle.wire.specs.Messages.{isNone, different}
 use Rattle.machines.specs.declared.tek.Tek.{Tek}
-use Rattle.modem.specs.State.{pastTek}
+use Rattle.modem_steps.specs.State.{pastTek}
 use Rattle.modem.specs.Limits.{saidsOfTeks}
 use Rattle.modem.specs.Apart.{apartAt, pairsApart}
 

@@ -1,3 +1,1 @@
-pub mod ReadyLaws
-pub mod SlotLaws
 pub mod ApartLaws

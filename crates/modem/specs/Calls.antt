@@ -10,14 +10,14 @@ use Rattle.keys.specs.declared.refusal.Refusal.the-variants.{OutOfLimits, Wrong
 use Rattle.keys.specs.declared.settings.Settings.{Settings}
 use Rattle.keys.specs.Questions.{Question, firstNo}
 use Rattle.keys.specs.Settings.{settingsFit}
-use Rattle.modem.specs.declared.state.Modem.{Modem}
-use Rattle.modem.specs.declared.state.Work.{Work}
-use Rattle.modem.specs.declared.state.Called.{Called}
-use Rattle.modem.specs.State.{freshOf, noSettings, starting}
+use Rattle.modem_steps.specs.declared.state.Modem.{Modem}
+use Rattle.modem_steps.specs.declared.state.Work.{Work}
+use Rattle.modem_steps.specs.declared.state.Called.{Called}
+use Rattle.modem_steps.specs.State.{freshOf, noSettings, starting}
 use Rattle.modem.specs.Limits.{modemFits}
-use Rattle.modem.specs.Machine.{plainEvent}
-use Rattle.modem.specs.Clock.{clocked}
-use Rattle.modem.specs.Receive.{receiveQuestions, received, fieldsIn}
+use Rattle.modem_steps.specs.Machine.{plainEvent}
+use Rattle.modem_steps.specs.Clock.{clocked}
+use Rattle.modem_steps.specs.Receive.{receiveQuestions, received, fieldsIn}
 use Rattle.modem.specs.Messages.{outOctets}
 
 -- What a call gives: a refusal changes and writes nothing

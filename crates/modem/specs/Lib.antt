@@ -1,10 +1,4 @@
-pub mod State
 pub mod Apart
 pub mod Limits
-pub mod Slots
-pub mod Relist
-pub mod Machine
-pub mod Clock
-pub mod Receive
 pub mod Messages
 pub mod Calls

@@ -16,8 +16,8 @@ use Rattle.machines.specs.declared.tek.Pair.{Pair}
 use Rattle.machines.specs.declared.tek.Tek.{Tek}
 use Rattle.machines.specs.declared.timer.Timer.{Timer}
 use Rattle.machines.specs.Transitions.{A, B, D, E, F}
-use Rattle.modem.specs.declared.state.Modem.{Modem}
-use Rattle.modem.specs.State.{slotAt}
+use Rattle.modem_steps.specs.declared.state.Modem.{Modem}
+use Rattle.modem_steps.specs.State.{slotAt}
 
 -- A timer that has to be on is on, at most so many seconds ahead of the clock; one that has not is off and zero
 unfoldable pub timerFits : Bool → ℕ → ℕ → Timer → Bool

@@ -6,7 +6,7 @@ use Rattle.machines.specs.declared.tek.Request.{Request}
 use Rattle.wire.specs.declared.fields.Fields.{Fields}
 use Rattle.wire.specs.Fields.{noParams, noDescriptor}
 use Rattle.wire.specs.Writing.{messageOf, noDigest}
-use Rattle.modem.specs.declared.state.Out.{Out}
+use Rattle.modem_steps.specs.declared.state.Out.{Out}
 
 -- 12 carries nothing, 4 a SAID, 7 an authorization key number and a SAID
 abbrev pub requestFields : Request → Fields

@@ -5,7 +5,7 @@ ghost use lib.ListN.{take};
 ghost use Rattle.wire.specs.Messages.{different};
 ghost use Rattle.modem.specs.Limits.{timerFits, authorizationFits, keyZero, pairHeldFits, longestWait, tekFits, tekZero, slotFits, saidsOfTeks, modemFits};
 ghost use Rattle.modem.specs.Apart.{apartAt};
-use crate::state::Modem;
+use modem_steps::state::Modem;
 use keys::octets::zero_past;
 use keys::settings::Waits;
 use keys::settings::settings_fit;

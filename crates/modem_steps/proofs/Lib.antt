@@ -1,0 +1,3 @@
+pub mod ReadyLaws
+pub mod SlotLaws
+pub mod ReceiveLaws

@@ -1,0 +1,29 @@
+use Rattle.modem_steps.specs.Relist.{appended}
+use borrow.Author.Tests.{le-leb, lt-leb}
+use borrow.Author.Needs.{needs}
+use Rattle.modem_steps.proofs.state.Work.appended.Statement.{statement}
+use Rattle.modem_steps.proofs.state.Work.appended.Tie as tie
+
+returns : tie.Need-returns
+unfolding appended
+returns c = (simp (le-leb _ _ (c .if1 .taken)), c .before .before .pre)
+
+mul-machine : tie.Need-mul-machine
+mul-machine c = search needs
+
+element-set-from-machine : tie.Need-element-set-from-machine
+element-set-from-machine c = search needs
+
+add-m : tie.Need-add-m
+add-m c = search needs
+
+push-requires : tie.Need-push-requires
+push-requires c κs = search needs
+
+returns-2 : tie.Need-returns-2
+unfolding appended
+returns-2 c = (simp (lt-leb _ _ (c .before .before .before .before .if1 .left)) (cc), c .before .before .before .before .before .before .pre)
+
+pub appended-spec : {M : Type 1} → statement M
+appended-spec =
+    tie.close (tie.spec returns mul-machine element-set-from-machine add-m push-requires returns-2)

@@ -1,0 +1,24 @@
+use Rattle.modem_steps.specs.Relist.{keptOne}
+use borrow.Author.Needs.{needs}
+use Rattle.modem_steps.proofs.state.Work.kept_one.Statement.{statement}
+use Rattle.modem_steps.proofs.state.Work.kept_one.Tie as tie
+
+mul-t : tie.Need-mul-t
+mul-t c = search needs
+
+element-copy-out-t : tie.Need-element-copy-out-t
+element-copy-out-t c = search needs
+
+is-listed-requires : tie.Need-is-listed-requires
+is-listed-requires c κs = search needs
+
+kept-if-requires : tie.Need-kept-if-requires
+kept-if-requires c κs = search needs
+
+returns : tie.Need-returns
+unfolding keptOne
+returns c = (cc, c .kept-if .ensures .1)
+
+pub kept-one-spec : {M : Type 1} → statement M
+kept-one-spec =
+    tie.close (tie.spec mul-t element-copy-out-t is-listed-requires kept-if-requires returns)

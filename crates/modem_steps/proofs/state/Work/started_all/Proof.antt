@@ -1,0 +1,30 @@
+use Rattle.modem_steps.specs.Relist.{startedTo}
+use borrow.Author.Needs.{needs}
+use Rattle.modem_steps.proofs.state.Work.started_all.Statement.{statement}
+use Rattle.modem_steps.proofs.state.Work.started_all.Tie as tie
+
+started-one-requires : tie.Need-started-one-requires
+started-one-requires c κs = search needs
+
+started-one-requires-2 : tie.Need-started-one-requires-2
+started-one-requires-2 c κs = search needs
+
+started-one-requires-3 : tie.Need-started-one-requires-3
+started-one-requires-3 c κs = search needs
+
+started-one-requires-4 : tie.Need-started-one-requires-4
+started-one-requires-4 c κs = search needs
+
+returns : tie.Need-returns
+unfolding startedTo
+returns c = (cc, c .started-one4 .ensures .1)
+
+pub started-all-spec : {M : Type 1} → statement M
+started-all-spec =
+    tie.close
+    (tie.spec
+    started-one-requires
+    started-one-requires-2
+    started-one-requires-3
+    started-one-requires-4
+    returns)

@@ -1,0 +1,41 @@
+use Rattle.modem_steps.specs.Relist.{startedIf}
+use borrow.Author.Tests.{not-true, not-false}
+use Rattle.modem_steps.proofs.ReadyLaws.{tek-ready, none-short}
+use borrow.Author.Needs.{needs}
+use Rattle.modem_steps.proofs.state.Work.started_if.Statement.{statement}
+use Rattle.modem_steps.proofs.state.Work.started_if.Tie as tie
+
+returns : tie.Need-returns
+unfolding startedIf
+returns c = (simp (not-true (c .before .args .new) (c .if1 .taken)), c .before .pre)
+
+tek-moment-requires : tie.Need-tek-moment-requires
+tek-moment-requires c κs = search needs
+
+no-params-requires : tie.Need-no-params-requires
+no-params-requires c κs = search needs
+
+fresh-tek-requires : tie.Need-fresh-tek-requires
+fresh-tek-requires c κs = search needs
+
+step-requires : tie.Need-step-requires
+step-requires c κs = tek-ready (c .before .before .before .before .before .args .self .modem) (c .before .before .tek-moment .result) (c .before .no-params .result) (c .before .no-params .result) (c .before .before .tek-moment .ensures) (c .before .before .before .before .before .pre) (none-short _ (c .before .no-params .ensures)) (none-short _ (c .before .no-params .ensures))
+
+appended-requires : tie.Need-appended-requires
+appended-requires c κs = search needs
+
+returns-2 : tie.Need-returns-2
+unfolding startedIf
+returns-2 c = (simp (not-false (c .before .before .before .before .before .before .before .args .new) (c .before .before .before .before .before .before .if1 .left)) (cc), c .appended .ensures .1)
+
+pub started-if-spec : {M : Type 1} → statement M
+started-if-spec =
+    tie.close
+    (tie.spec
+    returns
+    tek-moment-requires
+    no-params-requires
+    fresh-tek-requires
+    step-requires
+    appended-requires
+    returns-2)

@@ -1,0 +1,6 @@
+pub mod State
+pub mod Slots
+pub mod Relist
+pub mod Machine
+pub mod Clock
+pub mod Receive

@@ -1,0 +1,78 @@
+-- The TEK machines after an Authorization Reply (document 01, "Modem: authorization machine": B-C, D-C).
+use Prim.Native.Nat.{ℕ, zero, suc, _+_}
+use mathlib.Core.Bool.{Bool, cond, _&&_, _||_, not}
+use mathlib.Core.List.{List}
+use lib.Dec.{eqb, ltb, leb}
+use lib.ListN.{getD, set, replicate}
+use Rattle.wire.specs.declared.fields.Descriptor.{Descriptor}
+use Rattle.wire.specs.declared.fields.Fields.{Fields}
+use Rattle.wire.specs.Fields.{noParams, noDescriptor}
+use Rattle.machines.specs.declared.tek.Tek.{Tek}
+use Rattle.machines.specs.declared.tek.TekStep.{TekStep}
+use Rattle.machines.specs.Timers.{off}
+use Rattle.machines.specs.Transitions.{A}
+use Rattle.machines.specs.Tek.{noPair, tekStepOf}
+use Rattle.modem_steps.specs.declared.state.Modem.{Modem}
+use Rattle.modem_steps.specs.declared.state.Work.{Work}
+use Rattle.modem_steps.specs.State.{withMachines, noTek, slotAt, pushed}
+use Rattle.modem_steps.specs.Slots.{tekMoment, slotOfSaid}
+
+abbrev pub descriptorAt : Fields → ℕ → Descriptor
+descriptorAt f i = getD (f .descriptors) i noDescriptor
+
+-- One of the Reply's descriptors has a SAID with a suite
+abbrev pub hasAt : Fields → ℕ → ℕ → ℕ → Bool
+hasAt f i said suite = ltb i (f .count) && eqb (descriptorAt f i .said) said && eqb (descriptorAt f i .suite) suite
+
+unfoldable pub lists : Fields → ℕ → ℕ → Bool
+lists f said suite = hasAt f 0 said suite || hasAt f 1 said suite || hasAt f 2 said suite || hasAt f 3 said suite
+
+-- The slots emptied
+unfoldable pub emptied : Work → Work
+emptied w = record { modem = withMachines (w .modem) (w .modem .counter) (w .modem .authorization) 0 (replicate 4 noTek); out = w .out }
+
+-- A machine that has taken a step goes to the next free slot
+unfoldable pub appended : Work → TekStep → Work
+appended w s =
+    cond (leb 4 (w .modem .used)) w
+    (record {
+      modem = withMachines (w .modem) (s .counter) (w .modem .authorization) (w .modem .used + 1) (set (w .modem .teks) (w .modem .used) (s .machine));
+      out = pushed (w .out) (s .sends);
+    })
+
+-- A machine goes on where its SAID is listed with its suite and it is not in A: it is told Complete
+unfoldable pub keptIf : Bool → Work → Tek → Work
+keptIf goes w t = cond goes (appended w (tekStepOf t 4 (tekMoment (w .modem)) noParams noParams)) w
+
+unfoldable pub keptOne : Fields → Modem → Work → ℕ → Work
+keptOne f old w i =
+    keptIf (ltb i (old .used) && lists f (slotAt old i .said) (slotAt old i .suite) && not (eqb (slotAt old i .state) A)) w (slotAt old i)
+
+-- the old slots below n, in slot order
+unfoldable pub keptTo : ℕ → Fields → Modem → Work → Work
+keptTo zero f old w = w
+keptTo (suc n) f old w = keptOne f old (keptTo n f old w) n
+
+-- A listed SAID that no slot holds gets a machine that is told Authorized
+abbrev pub freshTek : Descriptor → Tek
+freshTek d = record { said = d .said; suite = d .suite; state = A; identifier = 0; timer = off; pair = noPair }
+
+unfoldable pub startedIf : Bool → Work → Descriptor → Work
+startedIf new w d = cond new (appended w (tekStepOf (freshTek d) 2 (tekMoment (w .modem)) noParams noParams)) w
+
+unfoldable pub startedOne : Fields → Work → ℕ → Work
+startedOne f w i =
+    startedIf (ltb i (f .count) && leb 4 (slotOfSaid (w .modem) (descriptorAt f i .said))) w (descriptorAt f i)
+
+-- the descriptors below n, in reply order
+unfoldable pub startedTo : ℕ → Fields → Work → Work
+startedTo zero f w = w
+startedTo (suc n) f w = startedOne f (startedTo n f w) n
+
+-- B-C: one machine for each listed SAID, the slots anew
+unfoldable pub listedAnew : Fields → Work → Work
+listedAnew f w = startedTo 4 f (emptied w)
+
+-- D-C: those not listed are stopped and go, the rest go on in slot order, the new start after them
+unfoldable pub relisted : Fields → Work → Work
+relisted f w = startedTo 4 f (keptTo 4 f (w .modem) (emptied w))

@@ -1,0 +1,128 @@
+// The modem's state, the messages of one call, and what a call hands back.
+ghost use mathlib.Core.Path.{_≡_};
+ghost use Rattle.modem_steps.specs.State.{noTek, noOut, pushed, starting, freshOf};
+use keys::numbers::AkNumber;
+use keys::refusal::Answer;
+use keys::settings::Settings;
+use machines::authorization::Authorization;
+use machines::tek::Request;
+use machines::tek::Tek;
+use machines::tek::no_pair;
+use machines::tek::no_request;
+use machines::timer::cleared;
+
+// `said` is the modem's own, which its Authorization Requests carry; `counter` is the last Identifier taken; of the four slots the first
+// `used` hold machines; `taken` and `refused` count frames.
+#[repr(C)]
+pub struct Modem {
+    pub settings: Settings,
+    pub address: u64,
+    pub said: u16,
+    pub clock: u64,
+    pub counter: u8,
+    pub authorization: Authorization,
+    pub used: usize,
+    pub teks: [Tek; 4],
+    pub taken: u64,
+    pub refused: u64,
+}
+
+// The messages of one call in order: the first `count`.
+pub struct Out {
+    pub count: usize,
+    pub sent: [Request; 6],
+}
+
+// The modem on its way through a call, with the messages so far.
+pub struct Work {
+    pub modem: Modem,
+    pub out: Out,
+}
+
+// What a call hands back: the answer, the modem after it, and how many octets of messages were written.
+pub struct Called {
+    pub answer: Answer,
+    pub modem: Modem,
+    pub count: usize,
+}
+
+// A slot that is not in use.
+pub fn no_tek() -> Tek
+    ensures { λ r. ⌜ r ≡ noTek ⌝ }
+{
+    let timer = cleared();
+    let pair = no_pair();
+    Tek {
+        said: 0,
+        suite: 0,
+        state: 0,
+        identifier: 0,
+        timer: timer,
+        pair: pair,
+    }
+}
+
+// A modem at clock 0 that knows no SAID but its own.
+pub fn fresh(settings: Settings, address: u64, said: u16) -> Modem
+    ensures { λ r. ⌜ r ≡ freshOf settings address said ⌝ }
+{
+    let timer = cleared();
+    let authorization = Authorization {
+        state: 0,
+        identifier: 0,
+        ak: AkNumber(0),
+        timer: timer,
+    };
+    let t = no_tek();
+    Modem {
+        settings: settings,
+        address: address,
+        said: said,
+        clock: 0,
+        counter: 0,
+        authorization: authorization,
+        used: 0,
+        teks: [t; 4],
+        taken: 0,
+        refused: 0,
+    }
+}
+
+pub fn no_out() -> Out
+    ensures { λ r. ⌜ r ≡ noOut ⌝ }
+{
+    let none = no_request();
+    Out {
+        count: 0,
+        sent: [none; 6],
+    }
+}
+
+impl Out {
+    // One message more, where there is one and room for it.
+    pub fn push(self, r: Request) -> Out
+        ensures { λ o. ⌜ o ≡ pushed self r ⌝ }
+    {
+        let n = self.count;
+        if r.code == 0 {
+            return self;
+        }
+        if 6 <= n {
+            return self;
+        }
+        let mut o = self;
+        o.sent[n] = r;
+        o.count = n + 1;
+        o
+    }
+}
+
+pub fn start(m: Modem) -> Work
+    ensures { λ r. ⌜ r ≡ starting m ⌝ }
+{
+    let none = no_out();
+    Work {
+        modem: m,
+        out: none,
+    }
+}
