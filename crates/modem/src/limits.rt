@@ -5,7 +5,6 @@ ghost use lib.ListN.{take};
 ghost use Rattle.wire.specs.Messages.{different};
 ghost use Rattle.modem.specs.Limits.{timerFits, authorizationFits, keyZero, pairHeldFits, longestWait, tekFits, tekZero, slotFits, saidsOfTeks, modemFits};
 ghost use Rattle.modem.specs.Apart.{apartAt};
-use modem_steps::state::Modem;
 use keys::octets::zero_past;
 use keys::settings::Waits;
 use keys::settings::settings_fit;
@@ -18,6 +17,7 @@ use machines::authorization::Authorization;
 use machines::tek::Pair;
 use machines::tek::Tek;
 use machines::timer::Timer;
+use modem_steps::state::Modem;
 
 fn timer_fits(must: bool, clock: u64, ahead: u64, t: Timer) -> bool
     ensures { λ r. ⌜ r ≡ timerFits must clock ahead t ⌝ }

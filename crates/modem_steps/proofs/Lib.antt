@@ -1,3 +1,2 @@
 pub mod ReadyLaws
 pub mod SlotLaws
-pub mod ReceiveLaws
