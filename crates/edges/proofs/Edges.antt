@@ -1,11 +1,29 @@
--- Each row of the table of edges holds: both sides compute to the same.
-use mathlib.Core.Path.{refl}
+-- Each row of the table of edges holds.
+use mathlib.Core.Path.{_≡_, refl}
+use Rattle.wire.specs.declared.fields.Params.{Params}
+use Rattle.wire.proofs.Vectors.{read-I6, number-103, number-107}
+use Rattle.machines.specs.declared.tek.Tek.{Tek}
+use Rattle.machines.specs.declared.tek.TekMoment.{TekMoment}
+use Rattle.machines.specs.Transitions.{C, D, F, nextIn, tekTransitions, authorizationTransitions}
+use Rattle.machines.specs.Tek.{noPair, tekStays, tekStepOf, tekMoved, pairAfter}
 use Rattle.association.specs.Roll.{rolledOf}
 use Rattle.association.specs.Listing.{freshOf}
 use Rattle.edges.specs.Edges.{Edges}
 
+in-d : (t : Tek) (x : TekMoment) (older newer : Params) → t .state ≡ D → tekStepOf t 8 x older newer ≡ tekStays t x
+unfolding tekStepOf nextIn tekTransitions
+in-d t x older newer e = simp e
+
+in-f : (t : Tek) (x : TekMoment) (older newer : Params) → t .state ≡ F → tekStepOf t 5 x older newer .machine .state ≡ C
+unfolding tekStepOf tekMoved nextIn tekTransitions
+in-f t x older newer e = simp e
+
+in-f-keys : (t : Tek) (x : TekMoment) (older newer : Params) → t .state ≡ F → tekStepOf t 5 x older newer .machine .pair ≡ noPair
+unfolding tekStepOf tekMoved pairAfter nextIn tekTransitions
+in-f-keys t x older newer e = simp e
+
 pub edges : Edges
-unfolding rolledOf freshOf
+unfolding rolledOf freshOf nextIn authorizationTransitions
 edges =
     record {
       clock-899 = λ s k m. refl;
@@ -18,4 +36,12 @@ edges =
       clock-1800-mints = λ s k m. refl;
       sixteenth = λ s k m. refl;
       sixteenth-number = λ s k m. refl;
+      invalid-in-c = refl;
+      reply-in-d = in-d;
+      invalid-in-f = in-f;
+      invalid-in-f-keys = in-f-keys;
+      identifier-255 = refl;
+      reply-i6 = read-I6;
+      reply-length-103 = number-103;
+      reply-107-octets = number-107;
     }

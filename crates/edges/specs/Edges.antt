@@ -1,8 +1,20 @@
--- The table of the edges that bear a P (document 01, "Edges"): L = 1,800, so H = 900, and a SAID is listed at second 0. The SAID, its
--- suite, the octets k lent with the listing and m lent with the clock call are any.
+-- The table of the edges that bear a P (document 01, "Edges"). For the rows on minting L = 1,800, so H = 900, and a SAID is listed at
+-- second 0; the SAID, its suite, the octets k lent with the listing and m lent with the clock call are any.
 use mathlib.Core.Path.{_≡_}
 use Prim.Native.Nat.{ℕ}
 use mathlib.Core.List.{List, [], _∷_}
+use lib.ListN.{set, take}
+use Rattle.keys.specs.declared.refusal.Answer.the-variants.{Done}
+use Rattle.keys.specs.Refusal.{answerNumber}
+use Rattle.wire.specs.declared.fields.Params.{Params}
+use Rattle.wire.specs.declared.fields.Receiver.the-variants.{Modem}
+use Rattle.wire.specs.Reading.{noPlace, readOf}
+use Rattle.wire.specs.Vectors.{replyI6, fieldsI6}
+use Rattle.machines.specs.declared.tek.Tek.{Tek}
+use Rattle.machines.specs.declared.tek.TekMoment.{TekMoment}
+use Rattle.machines.specs.Identifier.{nextIdentifier}
+use Rattle.machines.specs.Tek.{noPair, tekStays, tekStepOf}
+use Rattle.machines.specs.Transitions.{C, D, F, authorizationNext}
 use Rattle.keys.specs.declared.traffic.TrafficKey.{TrafficKey}
 use Rattle.association.specs.declared.record.Assoc.{Assoc}
 use Rattle.association.specs.Roll.{rolledOf}
@@ -54,3 +66,18 @@ pub record Edges : Type 0 where
   -- generation 16: number 0. Fifteen clock calls every H make it, and the key that a record shows of it has number 0
   pub sixteenth : (s : SaidSuite) (k m : List ℕ) → clocked m seconds (line s k) .newer ≡ generation s 16 13500 15300 m 0
   pub sixteenth-number : (s : SaidSuite) (k m : List ℕ) → keyOf (clocked m seconds (line s k) .newer) .number ≡ record { 0 = 0 }
+  -- C + Invalid: D
+  pub invalid-in-c : authorizationNext 7 C ≡ D
+  -- Operational + Key Reply: unchanged, whatever the reply brings
+  pub reply-in-d : (t : Tek) (x : TekMoment) (older newer : Params) → t .state ≡ D → tekStepOf t 8 x older newer ≡ tekStays t x
+  -- F + TEK Invalid: C, keys gone
+  pub invalid-in-f : (t : Tek) (x : TekMoment) (older newer : Params) → t .state ≡ F → tekStepOf t 5 x older newer .machine .state ≡ C
+  pub invalid-in-f-keys : (t : Tek) (x : TekMoment) (older newer : Params) → t .state ≡ F → tekStepOf t 5 x older newer .machine .pair ≡ noPair
+  -- Identifier 255, then 0
+  pub identifier-255 : nextIdentifier 255 ≡ 0
+  -- the Key Reply of I.6: Identifier 115, authorization key 7, SAID 8,800, numbers 2 and 3, lives 43,200 and 86,400
+  pub reply-i6 : readOf Modem replyI6 ≡ record { answer = Done; fields = fieldsI6; key = noPlace; digest = record { start = 88; len = 20 } }
+  -- with Length 103: 8
+  pub reply-length-103 : answerNumber (readOf Modem (set replyI6 3 103) .answer) ≡ 8
+  -- with 107 octets: 6
+  pub reply-107-octets : answerNumber (readOf Modem (take 107 replyI6) .answer) ≡ 6

@@ -1,7 +1,6 @@
 -- The Key Reply of appendix I.6, read; and two damaged copies of it, refused.
-use Prim.Native.Nat.{ℕ}
 use mathlib.Core.Path.{_≡_, refl}
-use mathlib.Core.List.{List, [], _∷_}
+use mathlib.Core.List.{[]}
 use mathlib.Core.Bool.{true}
 use lib.ListN.{take, drop, set}
 use Rattle.keys.specs.declared.refusal.Answer.the-variants.{Done, Refused}
@@ -9,61 +8,15 @@ use Rattle.keys.specs.declared.refusal.Refusal.the-variants.{CutMessage, BadAtt
 use Rattle.keys.specs.Refusal.{answerNumber}
 use Rattle.keys.specs.Octets.{padded, allZero, zeroPast}
 use Rattle.wire.specs.declared.fields.Receiver.the-variants.{HeadEnd, Modem}
-use Rattle.wire.specs.declared.fields.Fields.{Fields}
 use Rattle.wire.specs.Attributes.{itemsWith, items, values, countOf, valueAt, lastFrom, allOf, startFrom, be16, be32, two, four, attrOctets, octets}
 use Rattle.wire.specs.Ranges.{neededOf, among, needs, longestLife, fits, insideGood, insideSound, compound, good, sound}
 use Rattle.wire.specs.Messages.{lengthOf, bodyOf, isWhole, receives, asTold, insidesTold, compoundsTold, digestLast, saidsDiffer, inOrder, pairInOrder, complete, messageQuestions, messageAnswer}
-use Rattle.wire.specs.Fields.{keyOctets, paramsOf, descriptorOf, carried, carriedCount, fieldsOf, noDescriptor, noFields}
+use Rattle.wire.specs.Fields.{keyOctets, paramsOf, descriptorOf, carried, carriedCount, fieldsOf, noFields}
 use Rattle.wire.specs.Reading.{noPlace, placeOf, takenOf, readOf}
 use Rattle.wire.specs.Limits.{keyOctetsFit, paramsFit, pairFit, placeFit, descriptorZero, descriptorsZero, headFits, fieldsFit}
+use Rattle.wire.specs.Vectors.{replyI6, fieldsI6}
 use Rattle.wire.specs.Standard.{standard, typesOf, orderOf, sameTypes, ordered, insidesOrdered}
 use Rattle.wire.specs.Writing.{messageOf, message, itemsOf, itemsOfTypes, itemsOfType, paramsItems}
-
-abbrev pub replyI6 : List ℕ
-replyI6 =
-    0x08 ∷ 0x73 ∷ 0x00 ∷ 0x68
-    ∷ 0x0a ∷ 0x00 ∷ 0x01 ∷ 0x07
-    ∷ 0x0c ∷ 0x00 ∷ 0x02 ∷ 0x22 ∷ 0x60
-    ∷ 0x0d ∷ 0x00 ∷ 0x21
-    ∷ 0x08 ∷ 0x00 ∷ 0x08 ∷ 0xb6 ∷ 0x4d ∷ 0x54 ∷ 0x8c ∷ 0x3f ∷ 0x6b ∷ 0x25 ∷ 0x69
-    ∷ 0x09 ∷ 0x00 ∷ 0x04 ∷ 0x00 ∷ 0x00 ∷ 0xa8 ∷ 0xc0
-    ∷ 0x0a ∷ 0x00 ∷ 0x01 ∷ 0x02
-    ∷ 0x0f ∷ 0x00 ∷ 0x08 ∷ 0x81 ∷ 0x0e ∷ 0x52 ∷ 0x8e ∷ 0x1c ∷ 0x5f ∷ 0xda ∷ 0x1a
-    ∷ 0x0d ∷ 0x00 ∷ 0x21
-    ∷ 0x08 ∷ 0x00 ∷ 0x08 ∷ 0x5e ∷ 0xbd ∷ 0x03 ∷ 0xaa ∷ 0x5e ∷ 0xd5 ∷ 0xe2 ∷ 0x94
-    ∷ 0x09 ∷ 0x00 ∷ 0x04 ∷ 0x00 ∷ 0x01 ∷ 0x51 ∷ 0x80
-    ∷ 0x0a ∷ 0x00 ∷ 0x01 ∷ 0x03
-    ∷ 0x0f ∷ 0x00 ∷ 0x08 ∷ 0x25 ∷ 0x35 ∷ 0x67 ∷ 0xc3 ∷ 0x09 ∷ 0x21 ∷ 0x8c ∷ 0x2c
-    ∷ 0x0b ∷ 0x00 ∷ 0x14 ∷ 0xa5 ∷ 0xe3 ∷ 0x33 ∷ 0x25 ∷ 0xea ∷ 0x72 ∷ 0xf8 ∷ 0x50 ∷ 0x1c ∷ 0x2a ∷ 0xb6 ∷ 0x65 ∷ 0x45 ∷ 0x6b
-    ∷ 0xcc ∷ 0xde ∷ 0x8b ∷ 0x4f ∷ 0x22 ∷ 0x02 ∷ []
-
--- What it carries
-abbrev pub fieldsI6 : Fields
-fieldsI6 =
-    record {
-      code = 8;
-      identifier = 115;
-      ak = record { 0 = 7 };
-      said = 8800;
-      life = 0;
-      error = 0;
-      count = 0;
-      descriptors = noDescriptor ∷ noDescriptor ∷ noDescriptor ∷ noDescriptor ∷ [];
-      older =
-          record {
-            number = record { 0 = 2 };
-            life = 43200;
-            tek = record { width = 8; octets = 0xb6 ∷ 0x4d ∷ 0x54 ∷ 0x8c ∷ 0x3f ∷ 0x6b ∷ 0x25 ∷ 0x69 ∷ 0 ∷ 0 ∷ 0 ∷ 0 ∷ 0 ∷ 0 ∷ 0 ∷ 0 ∷ [] };
-            vector = record { width = 8; octets = 0x81 ∷ 0x0e ∷ 0x52 ∷ 0x8e ∷ 0x1c ∷ 0x5f ∷ 0xda ∷ 0x1a ∷ 0 ∷ 0 ∷ 0 ∷ 0 ∷ 0 ∷ 0 ∷ 0 ∷ 0 ∷ [] };
-          };
-      newer =
-          record {
-            number = record { 0 = 3 };
-            life = 86400;
-            tek = record { width = 8; octets = 0x5e ∷ 0xbd ∷ 0x03 ∷ 0xaa ∷ 0x5e ∷ 0xd5 ∷ 0xe2 ∷ 0x94 ∷ 0 ∷ 0 ∷ 0 ∷ 0 ∷ 0 ∷ 0 ∷ 0 ∷ 0 ∷ [] };
-            vector = record { width = 8; octets = 0x25 ∷ 0x35 ∷ 0x67 ∷ 0xc3 ∷ 0x09 ∷ 0x21 ∷ 0x8c ∷ 0x2c ∷ 0 ∷ 0 ∷ 0 ∷ 0 ∷ 0 ∷ 0 ∷ 0 ∷ 0 ∷ [] };
-          };
-    }
 
 -- It is taken, with these fields; the digest is its last 20 octets
 pub read-I6 : readOf Modem replyI6 ≡ record { answer = Done; fields = fieldsI6; key = noPlace; digest = record { start = 88; len = 20 } }

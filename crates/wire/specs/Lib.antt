@@ -6,3 +6,4 @@ pub mod Reading
 pub mod Limits
 pub mod Writing
 pub mod Standard
+pub mod Vectors
