@@ -1,2 +1,16 @@
 pub mod ApartLaws
 pub mod ReceiveLaws
+pub mod AskedLaws
+pub mod OutLaws
+pub mod SentLaws
+pub mod PutLaws
+pub mod LimitsLaws
+pub mod SentFits
+pub mod AnswerLaws
+pub mod NoneDropped
+pub mod KeptMachines
+pub mod KeptSteps
+pub mod KeptReply
+pub mod KeptMessages
+pub mod CallLaws
+pub mod ModemRows

@@ -1,11 +1,12 @@
 -- The modem's calls: the questions in document 01's order, and what is done where all are met.
 use Prim.Native.Nat.{ℕ}
-use mathlib.Core.Bool.{Bool, _&&_, not}
+use mathlib.Core.Bool.{Bool, true, false, _&&_}
 use mathlib.Core.List.{List, [], _∷_, _++_}
 use lib.Dec.{leb, ltb}
 use lib.ListN.{length}
 use Rattle.keys.specs.declared.refusal.Answer.{Answer}
 use Rattle.keys.specs.declared.refusal.Answer.the-variants.{Done, Refused}
+use Rattle.keys.specs.declared.refusal.Refusal.{Refusal}
 use Rattle.keys.specs.declared.refusal.Refusal.the-variants.{OutOfLimits, WrongLength, ClockOutOfOrder}
 use Rattle.keys.specs.declared.settings.Settings.{Settings}
 use Rattle.keys.specs.Questions.{Question, firstNo}
@@ -25,10 +26,23 @@ pub record Result : Type 0 where
   pub called : Called
   pub written : List ℕ
 
+abbrev pub doneCall : Work → Called
+doneCall w = record { answer = Done; modem = w .modem; count = length (outOctets (w .out)) }
+
+abbrev pub refusedCall : Refusal → Modem → Called
+refusedCall r m = record { answer = Refused r; modem = m; count = 0 }
+
+-- ---- a refusal that is handed on
+abbrev pub isDone : Answer → Bool
+isDone Done = true
+isDone (Refused r) = false
+
+abbrev pub answeredCall : Answer → Modem → Called
+answeredCall a m = record { answer = a; modem = m; count = 0 }
+
 abbrev pub resultOf : Answer → Modem → Work → Result
-resultOf Done m w =
-    record { called = record { answer = Done; modem = w .modem; count = length (outOctets (w .out)) }; written = outOctets (w .out) }
-resultOf (Refused r) m w = record { called = record { answer = Refused r; modem = m; count = 0 }; written = [] }
+resultOf Done m w = record { called = doneCall w; written = outOctets (w .out) }
+resultOf (Refused r) m w = record { called = refusedCall r m; written = [] }
 
 -- Questions 1 and 2 of every call but `new`: the state, and 216 octets for messages
 abbrev pub firstQuestions : Modem → ℕ → List Question
@@ -61,9 +75,11 @@ reauthOf m lent = eventOf 8 m lent
 unfoldable pub clockFits : Modem → ℕ → Bool
 clockFits m t = leb (m .clock) t && leb t 1000000000000
 
+abbrev pub clockQuestions : Modem → ℕ → List Question
+clockQuestions m t = record { refusal = ClockOutOfOrder; met = clockFits m t } ∷ []
+
 unfoldable pub clockOf : Modem → ℕ → ℕ → Result
-clockOf m t lent =
-    resultOf (firstNo (firstQuestions m lent ++ (record { refusal = ClockOutOfOrder; met = clockFits m t } ∷ []))) m (clocked m t)
+clockOf m t lent = resultOf (firstNo (firstQuestions m lent ++ clockQuestions m t)) m (clocked m t)
 
 unfoldable pub receiveOf : Modem → List ℕ → Bool → ℕ → Result
 receiveOf m s digest lent = resultOf (firstNo (firstQuestions m lent ++ receiveQuestions m s digest)) m (received m (fieldsIn s))

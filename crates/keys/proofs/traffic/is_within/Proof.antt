@@ -1,3 +1,4 @@
+-- `keys::traffic::is_within` meets its contract.
 use Rattle.keys.proofs.TestLaws.{sub-leb, le-sum}
 use native.Mathlib.Omega.{arith}
 use mathlib.Core.Path.{sym}

@@ -1,3 +1,4 @@
+-- `machines::authorization::informs_of` meets its contract.
 use Rattle.machines.specs.Authorization.{informsOf}
 use borrow.Author.Tests.{eq-eqb, ne-eqb}
 use borrow.Author.Needs.{needs}

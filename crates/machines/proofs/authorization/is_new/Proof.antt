@@ -1,3 +1,4 @@
+-- `machines::authorization::is_new` meets its contract.
 use borrow.Author.Needs.{needs}
 use Rattle.machines.proofs.authorization.is_new.Statement.{statement}
 use Rattle.machines.proofs.authorization.is_new.Tie as tie

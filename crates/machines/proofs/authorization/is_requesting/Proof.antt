@@ -1,3 +1,4 @@
+-- `machines::authorization::is_requesting` meets its contract.
 use borrow.Author.Needs.{needs}
 use Rattle.machines.proofs.authorization.is_requesting.Statement.{statement}
 use Rattle.machines.proofs.authorization.is_requesting.Tie as tie

@@ -1,3 +1,4 @@
+-- `machines::tek::counter_after` meets its contract.
 use Rattle.machines.specs.Tek.{counterAfter}
 use mathlib.Core.Path.{sym, _∙_}
 use borrow.Author.Needs.{needs}

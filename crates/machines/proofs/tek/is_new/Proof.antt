@@ -1,3 +1,4 @@
+-- `machines::tek::is_new` meets its contract.
 use borrow.Author.Needs.{needs}
 use Rattle.machines.proofs.tek.is_new.Statement.{statement}
 use Rattle.machines.proofs.tek.is_new.Tie as tie

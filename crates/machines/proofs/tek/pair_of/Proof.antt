@@ -1,3 +1,4 @@
+-- `machines::tek::pair_of` meets its contract.
 use borrow.Author.Needs.{needs}
 use Rattle.machines.proofs.tek.pair_of.Statement.{statement}
 use Rattle.machines.proofs.tek.pair_of.Tie as tie

@@ -1,3 +1,4 @@
+-- `machines::tek::timer_after` meets its contract.
 use Rattle.machines.specs.Tek.{tekTimer}
 use borrow.Author.Tests.{eq-eqb, ne-eqb}
 use borrow.Author.Needs.{needs}

@@ -1,3 +1,4 @@
+-- `machines::timer::is_due` meets its contract.
 use Rattle.machines.specs.Timers.{isDue}
 use Rattle.machines.proofs.timer.is_due.Statement.{statement}
 use Rattle.machines.proofs.timer.is_due.Tie as tie

@@ -1,3 +1,4 @@
+-- `machines::transitions::authorization_next` meets its contract.
 use Rattle.machines.proofs.TableLaws.{allWithin, ruled, rule-at, no-event, past-event, past-state}
 use Rattle.machines.specs.Transitions.{nextIn, authorizationTransitions, authorizationNext}
 use native.Mathlib.Omega.{arith}

@@ -1,3 +1,4 @@
+-- `machines::transitions::tek_next` meets its contract.
 use Rattle.machines.proofs.TableLaws.{allWithin, ruled, rule-at, no-event, past-event, past-state}
 use Rattle.machines.specs.Transitions.{nextIn, tekTransitions, tekNext}
 use native.Mathlib.Omega.{arith}

@@ -1,3 +1,4 @@
+-- `modem::limits::authorization_fits` meets its contract.
 use Rattle.modem.specs.Limits.{authorizationFits}
 use borrow.Author.Needs.{needs}
 use Rattle.modem.proofs.limits.authorization_fits.Statement.{statement}

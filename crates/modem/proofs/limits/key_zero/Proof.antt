@@ -1,3 +1,4 @@
+-- `modem::limits::key_zero` meets its contract.
 use Rattle.keys.specs.Octets.{zeroPast}
 use Rattle.modem.specs.Limits.{keyZero}
 use borrow.Author.Needs.{needs}

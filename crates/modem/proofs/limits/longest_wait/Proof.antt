@@ -1,3 +1,4 @@
+-- `modem::limits::longest_wait` meets its contract.
 use Rattle.modem.specs.Limits.{longestWait}
 use borrow.Author.Tests.{eq-eqb, ne-eqb}
 use Rattle.modem.proofs.limits.longest_wait.Statement.{statement}

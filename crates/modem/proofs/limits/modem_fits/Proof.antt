@@ -1,3 +1,4 @@
+-- `modem::limits::modem_fits` meets its contract.
 use Rattle.modem.specs.Limits.{modemFits}
 use borrow.Author.Needs.{needs}
 use Rattle.modem.proofs.limits.modem_fits.Statement.{statement}

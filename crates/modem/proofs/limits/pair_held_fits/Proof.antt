@@ -1,3 +1,4 @@
+-- `modem::limits::pair_held_fits` meets its contract.
 use Rattle.modem.specs.Limits.{pairHeldFits}
 use borrow.Author.Needs.{needs}
 use Rattle.modem.proofs.limits.pair_held_fits.Statement.{statement}

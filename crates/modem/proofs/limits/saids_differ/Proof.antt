@@ -1,3 +1,4 @@
+-- `modem::limits::saids_differ` meets its contract.
 use native.Mathlib.Omega.{arith}
 use Rattle.modem.proofs.ApartLaws.{by-pairs}
 use borrow.Author.Needs.{needs}

@@ -1,3 +1,4 @@
+-- `modem::limits::slot_fits` meets its contract.
 use Rattle.modem.specs.Limits.{slotFits}
 use borrow.Author.Tests.{lt-ltb, le-ltb}
 use borrow.Author.Needs.{needs}

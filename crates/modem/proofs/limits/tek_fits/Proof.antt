@@ -1,3 +1,4 @@
+-- `modem::limits::tek_fits` meets its contract.
 use Rattle.modem.specs.Limits.{tekFits}
 use borrow.Author.Needs.{needs}
 use Rattle.modem.proofs.limits.tek_fits.Statement.{statement}

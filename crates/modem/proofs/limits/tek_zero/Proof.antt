@@ -1,3 +1,4 @@
+-- `modem::limits::tek_zero` meets its contract.
 use Rattle.modem.specs.Limits.{tekZero}
 use borrow.Author.Needs.{needs}
 use Rattle.modem.proofs.limits.tek_zero.Statement.{statement}

@@ -1,3 +1,4 @@
+-- `modem::limits::timer_fits` meets its contract.
 use Rattle.modem.specs.Limits.{timerFits}
 use borrow.Author.Needs.{needs}
 use Rattle.modem.proofs.limits.timer_fits.Statement.{statement}

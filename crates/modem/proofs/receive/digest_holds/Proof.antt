@@ -1,3 +1,4 @@
+-- `modem::receive::digest_holds` meets its contract.
 use Rattle.modem_steps.specs.Receive.{digestHolds}
 use borrow.Author.Needs.{needs}
 use Rattle.modem.proofs.receive.digest_holds.Statement.{statement}

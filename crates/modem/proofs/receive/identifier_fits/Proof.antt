@@ -1,3 +1,4 @@
+-- `modem::receive::identifier_fits` meets its contract.
 use Rattle.modem.proofs.ReceiveLaws.{waits-there}
 use Prim.Native.Nat.{ℕ}
 use mathlib.Core.Bool.{_||_}

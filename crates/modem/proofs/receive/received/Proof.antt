@@ -1,3 +1,4 @@
+-- `modem::receive::received` meets its contract.
 use Rattle.modem.proofs.ReceiveLaws.{told-there, replied-there}
 use Rattle.modem_steps.specs.Slots.{slotOfSaid}
 use Prim.Native.Nat.{_<_}

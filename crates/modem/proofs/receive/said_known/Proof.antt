@@ -1,3 +1,4 @@
+-- `modem::receive::said_known` meets its contract.
 use Rattle.modem_steps.specs.Receive.{saidKnown}
 use borrow.Author.Needs.{needs}
 use Rattle.modem.proofs.receive.said_known.Statement.{statement}

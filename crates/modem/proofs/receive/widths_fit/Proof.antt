@@ -1,3 +1,4 @@
+-- `modem::receive::widths_fit` meets its contract.
 use Rattle.modem.proofs.ReceiveLaws.{wide-there}
 use Rattle.modem.proofs.ReceiveLaws.{widths-other, widths-unknown, widths-known}
 use Rattle.modem_steps.specs.Slots.{slotOfSaid}

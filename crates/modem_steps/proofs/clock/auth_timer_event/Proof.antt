@@ -1,3 +1,4 @@
+-- `modem_steps::clock::auth_timer_event` meets its contract.
 use Rattle.modem_steps.specs.Clock.{authTimerEvent}
 use borrow.Author.Tests.{eq-eqb, ne-eqb}
 use Rattle.modem_steps.proofs.clock.auth_timer_event.Statement.{statement}

@@ -1,3 +1,4 @@
+-- `modem_steps::clock::clocked` meets its contract.
 use Rattle.modem_steps.proofs.ReadyLaws.{started-ready}
 use Rattle.modem_steps.specs.State.{withClock}
 use Rattle.modem_steps.specs.Clock.{clocked, slotsFired}

@@ -1,3 +1,4 @@
+-- `modem_steps::clock::tek_timer_event` meets its contract.
 use Rattle.modem_steps.specs.Clock.{tekTimerEvent}
 use borrow.Author.Tests.{eq-eqb, ne-eqb}
 use Rattle.modem_steps.proofs.clock.tek_timer_event.Statement.{statement}

@@ -1,3 +1,4 @@
+-- `modem_steps::machine::invalidated` meets its contract.
 use Rattle.modem_steps.specs.Slots.{slotAsking}
 use native.Mathlib.Omega.{arith}
 use Prim.Native.Nat.{_<_, _≤_}

@@ -1,3 +1,4 @@
+-- `modem_steps::machine::reject_event` meets its contract.
 use Rattle.modem_steps.specs.Machine.{rejectEvent}
 use borrow.Author.Tests.{eq-eqb, ne-eqb}
 use Rattle.modem_steps.proofs.machine.reject_event.Statement.{statement}

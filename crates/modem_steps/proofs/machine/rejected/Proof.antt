@@ -1,3 +1,4 @@
+-- `modem_steps::machine::rejected` meets its contract.
 use Rattle.modem_steps.proofs.ReadyLaws.{started-ready}
 use Rattle.modem_steps.specs.Machine.{rejected}
 use borrow.Author.Tests.{eq-eqb, ne-eqb}

@@ -1,3 +1,4 @@
+-- `modem_steps::relist::fresh_tek` meets its contract.
 use borrow.Author.Needs.{needs}
 use Rattle.modem_steps.proofs.relist.fresh_tek.Statement.{statement}
 use Rattle.modem_steps.proofs.relist.fresh_tek.Tie as tie

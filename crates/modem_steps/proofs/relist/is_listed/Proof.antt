@@ -1,3 +1,4 @@
+-- `modem_steps::relist::is_listed` meets its contract.
 use Rattle.modem_steps.specs.Relist.{lists}
 use borrow.Author.Needs.{needs}
 use Rattle.modem_steps.proofs.relist.is_listed.Statement.{statement}

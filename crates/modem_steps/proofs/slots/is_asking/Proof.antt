@@ -1,3 +1,4 @@
+-- `modem_steps::slots::is_asking` meets its contract.
 use borrow.Author.Needs.{needs}
 use Rattle.modem_steps.proofs.slots.is_asking.Statement.{statement}
 use Rattle.modem_steps.proofs.slots.is_asking.Tie as tie

@@ -1,3 +1,4 @@
+-- `modem_steps::slots::slot_asking` meets its contract.
 use Rattle.modem_steps.proofs.SlotLaws.{first-0, first-1, first-2, first-3, first-none}
 use Rattle.modem_steps.specs.Slots.{asking}
 use lib.Dec.{ltb}

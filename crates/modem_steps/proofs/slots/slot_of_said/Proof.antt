@@ -1,3 +1,4 @@
+-- `modem_steps::slots::slot_of_said` meets its contract.
 use Rattle.modem_steps.proofs.SlotLaws.{first-0, first-1, first-2, first-3, first-none}
 use lib.Dec.{eqb}
 use native.Mathlib.Omega.{arith}

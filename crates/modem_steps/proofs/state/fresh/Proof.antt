@@ -1,3 +1,4 @@
+-- `modem_steps::state::fresh` meets its contract.
 use borrow.Author.Needs.{needs}
 use Rattle.modem_steps.proofs.state.fresh.Statement.{statement}
 use Rattle.modem_steps.proofs.state.fresh.Tie as tie

@@ -1,3 +1,4 @@
+-- `modem_steps::state::no_out` meets its contract.
 use borrow.Author.Needs.{needs}
 use Rattle.modem_steps.proofs.state.no_out.Statement.{statement}
 use Rattle.modem_steps.proofs.state.no_out.Tie as tie

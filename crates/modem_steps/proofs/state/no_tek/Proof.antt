@@ -1,3 +1,4 @@
+-- `modem_steps::state::no_tek` meets its contract.
 use borrow.Author.Needs.{needs}
 use Rattle.modem_steps.proofs.state.no_tek.Statement.{statement}
 use Rattle.modem_steps.proofs.state.no_tek.Tie as tie

@@ -1,3 +1,4 @@
+-- `modem_steps::state::start` meets its contract.
 use borrow.Author.Needs.{needs}
 use Rattle.modem_steps.proofs.state.start.Statement.{statement}
 use Rattle.modem_steps.proofs.state.start.Tie as tie

@@ -1,3 +1,4 @@
+-- `machines::authorization::Authorization::ak_after` meets its contract.
 use borrow.Author.Tests.{eq-eqb, ne-eqb}
 use Rattle.machines.proofs.authorization.Authorization.ak_after.Statement.{statement}
 use Rattle.machines.proofs.authorization.Authorization.ak_after.Tie as tie

@@ -1,3 +1,4 @@
+-- `machines::authorization::Authorization::counter_after` meets its contract.
 use Rattle.machines.specs.Authorization.{authCounter}
 use mathlib.Core.Path.{sym, _∙_}
 use borrow.Author.Needs.{needs}

@@ -1,3 +1,4 @@
+-- `machines::authorization::Authorization::identifier_after` meets its contract.
 use Rattle.machines.specs.Authorization.{authIdentifier}
 use mathlib.Core.Path.{sym, _∙_}
 use borrow.Author.Needs.{needs}

@@ -1,3 +1,4 @@
+-- `machines::authorization::Authorization::moved` meets its contract.
 use Rattle.machines.specs.Authorization.{authMoved}
 use borrow.Author.Needs.{needs}
 use Rattle.machines.proofs.authorization.Authorization.moved.Statement.{statement}

@@ -1,3 +1,4 @@
+-- `machines::authorization::Authorization::requests_after` meets its contract.
 use Rattle.machines.specs.Authorization.{requestsOf}
 use mathlib.Core.Path.{sym, _∙_}
 use borrow.Author.Needs.{needs}

@@ -1,3 +1,4 @@
+-- `machines::authorization::Authorization::step` meets its contract.
 use Rattle.machines.specs.Authorization.{authStepOf}
 use borrow.Author.Tests.{eq-eqb, ne-eqb}
 use mathlib.Core.Path.{sym, _∙_}

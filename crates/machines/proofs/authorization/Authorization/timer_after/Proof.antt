@@ -1,3 +1,4 @@
+-- `machines::authorization::Authorization::timer_after` meets its contract.
 use Rattle.machines.specs.Authorization.{authTimer}
 use mathlib.Core.Path.{sym, _∙_}
 use borrow.Author.Tests.{eq-eqb, ne-eqb}

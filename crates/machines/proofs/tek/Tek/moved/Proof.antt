@@ -1,3 +1,4 @@
+-- `machines::tek::Tek::moved` meets its contract.
 use Rattle.machines.specs.Tek.{tekMoved}
 use borrow.Author.Needs.{needs}
 use Rattle.machines.proofs.tek.Tek.moved.Statement.{statement}

@@ -1,3 +1,4 @@
+-- `machines::tek::Tek::pair_after` meets its contract.
 use Rattle.machines.specs.Tek.{pairAfter}
 use borrow.Author.Tests.{eq-eqb, ne-eqb}
 use borrow.Author.Needs.{needs}

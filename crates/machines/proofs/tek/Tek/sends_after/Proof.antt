@@ -1,3 +1,4 @@
+-- `machines::tek::Tek::sends_after` meets its contract.
 use Rattle.machines.specs.Tek.{tekSends}
 use mathlib.Core.Path.{sym, _∙_}
 use borrow.Author.Needs.{needs}

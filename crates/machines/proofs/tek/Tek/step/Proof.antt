@@ -1,3 +1,4 @@
+-- `machines::tek::Tek::step` meets its contract.
 use Rattle.machines.specs.Tek.{tekStepOf}
 use borrow.Author.Tests.{eq-eqb, ne-eqb}
 use mathlib.Core.Path.{sym, _∙_}

@@ -1,3 +1,4 @@
+-- `modem_steps::state::Out::push` meets its contract.
 use Rattle.modem_steps.specs.State.{pushed}
 use borrow.Author.Tests.{eq-eqb, ne-eqb, le-leb, lt-leb}
 use borrow.Author.Needs.{needs}

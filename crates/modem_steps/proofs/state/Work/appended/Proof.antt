@@ -1,3 +1,4 @@
+-- `modem_steps::state::Work::appended` meets its contract.
 use Rattle.modem_steps.specs.Relist.{appended}
 use borrow.Author.Tests.{le-leb, lt-leb}
 use borrow.Author.Needs.{needs}

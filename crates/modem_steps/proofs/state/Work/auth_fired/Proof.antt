@@ -1,3 +1,4 @@
+-- `modem_steps::state::Work::auth_fired` meets its contract.
 use Rattle.modem_steps.specs.Clock.{authFired}
 use mathlib.Core.Path.{sym, _∙_}
 use borrow.Author.Needs.{needs}

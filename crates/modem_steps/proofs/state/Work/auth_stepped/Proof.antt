@@ -1,3 +1,4 @@
+-- `modem_steps::state::Work::auth_stepped` meets its contract.
 use Rattle.modem_steps.specs.Machine.{authStepped}
 use borrow.Author.Needs.{needs}
 use Rattle.modem_steps.proofs.state.Work.auth_stepped.Statement.{statement}

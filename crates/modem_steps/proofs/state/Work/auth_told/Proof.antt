@@ -1,3 +1,4 @@
+-- `modem_steps::state::Work::auth_told` meets its contract.
 use Rattle.modem_steps.proofs.ReadyLaws.{auth-ready}
 use Rattle.modem_steps.specs.Machine.{authTold}
 use borrow.Author.Needs.{needs}

@@ -1,3 +1,4 @@
+-- `modem_steps::state::Work::emptied` meets its contract.
 use Rattle.modem_steps.specs.Relist.{emptied}
 use borrow.Author.Needs.{needs}
 use Rattle.modem_steps.proofs.state.Work.emptied.Statement.{statement}

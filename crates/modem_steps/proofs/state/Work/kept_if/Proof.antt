@@ -1,3 +1,4 @@
+-- `modem_steps::state::Work::kept_if` meets its contract.
 use Rattle.modem_steps.specs.Relist.{keptIf}
 use borrow.Author.Tests.{not-true, not-false}
 use Rattle.modem_steps.proofs.ReadyLaws.{tek-ready, none-short}

@@ -1,3 +1,4 @@
+-- `modem_steps::state::Work::kept_one` meets its contract.
 use Rattle.modem_steps.specs.Relist.{keptOne}
 use borrow.Author.Needs.{needs}
 use Rattle.modem_steps.proofs.state.Work.kept_one.Statement.{statement}

@@ -1,3 +1,4 @@
+-- `modem_steps::state::Work::listed_anew` meets its contract.
 use Rattle.modem_steps.specs.Relist.{listedAnew}
 use borrow.Author.Needs.{needs}
 use Rattle.modem_steps.proofs.state.Work.listed_anew.Statement.{statement}

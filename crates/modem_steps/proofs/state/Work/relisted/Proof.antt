@@ -1,3 +1,4 @@
+-- `modem_steps::state::Work::relisted` meets its contract.
 use Rattle.modem_steps.specs.Relist.{relisted, keptTo}
 use borrow.Author.Needs.{needs}
 use Rattle.modem_steps.proofs.state.Work.relisted.Statement.{statement}

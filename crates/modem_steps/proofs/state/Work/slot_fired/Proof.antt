@@ -1,3 +1,4 @@
+-- `modem_steps::state::Work::slot_fired` meets its contract.
 use Rattle.modem_steps.specs.Clock.{slotFired}
 use mathlib.Core.Path.{sym, _∙_}
 use borrow.Author.Needs.{needs}

@@ -1,3 +1,4 @@
+-- `modem_steps::state::Work::started_all` meets its contract.
 use Rattle.modem_steps.specs.Relist.{startedTo}
 use borrow.Author.Needs.{needs}
 use Rattle.modem_steps.proofs.state.Work.started_all.Statement.{statement}

@@ -1,3 +1,4 @@
+-- `modem_steps::state::Work::started_one` meets its contract.
 use Rattle.modem_steps.specs.Relist.{startedOne}
 use borrow.Author.Needs.{needs}
 use Rattle.modem_steps.proofs.state.Work.started_one.Statement.{statement}

@@ -1,3 +1,4 @@
+-- `modem_steps::state::Work::stepped_at` meets its contract.
 use Rattle.modem_steps.specs.Slots.{steppedAt}
 use borrow.Author.Needs.{needs}
 use Rattle.modem_steps.proofs.state.Work.stepped_at.Statement.{statement}

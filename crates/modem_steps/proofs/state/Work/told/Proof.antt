@@ -1,3 +1,4 @@
+-- `modem_steps::state::Work::told` meets its contract.
 use Rattle.modem_steps.proofs.ReadyLaws.{none-short}
 use borrow.Author.Needs.{needs}
 use Rattle.modem_steps.proofs.state.Work.told.Statement.{statement}

@@ -1,3 +1,4 @@
+-- `modem_steps::state::Work::told_all` meets its contract.
 use Rattle.modem_steps.specs.Slots.{toldAll}
 use borrow.Author.Needs.{needs}
 use Rattle.modem_steps.proofs.state.Work.told_all.Statement.{statement}

@@ -1,3 +1,4 @@
+-- `modem_steps::state::Work::told_reply` meets its contract.
 use Rattle.modem_steps.proofs.ReadyLaws.{tek-ready}
 use Rattle.modem_steps.specs.Slots.{toldReply}
 use mathlib.Core.Path.{subst, sym}

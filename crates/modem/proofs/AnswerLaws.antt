@@ -1,0 +1,171 @@
+-- What a call gives, by the first question that is not met and where all are met.
+use mathlib.Core.Path.{_≡_, refl, sym, _∙_, ap, subst}
+use mathlib.Core.Bool.{Bool, true, false, cond, _&&_, and-false}
+use mathlib.Core.List.{List, [], _∷_, _++_}
+use Prim.Native.Nat.{ℕ, _≤_, _<_}
+use native.Mathlib.Omega.{arith}
+use lib.Dec.{leb}
+use lib.ListN.{length}
+use borrow.Author.Tests.{le-leb, lt-leb}
+use Rattle.keys.specs.declared.refusal.Answer.{Answer}
+use Rattle.keys.specs.declared.refusal.Answer.the-variants.{Done, Refused}
+use Rattle.keys.specs.declared.refusal.Refusal.{Refusal}
+use Rattle.keys.specs.declared.refusal.Refusal.the-variants.{OutOfLimits, WrongLength, ClockOutOfOrder, CutMessage, CodeNotReceived, BadAttribute, WrongAttributes, UnknownSaid, WrongIdentifier, DigestFails}
+use Rattle.keys.specs.Octets.{overlay}
+use Rattle.keys.specs.Questions.{Question, firstNo}
+use Rattle.wire.specs.declared.fields.Receiver.{Receiver}
+use Rattle.wire.specs.declared.fields.Receiver.the-variants.{Modem as AtModem}
+use Rattle.wire.specs.declared.fields.Fields.{Fields}
+use Rattle.wire.specs.declared.fields.Reading.{Reading}
+use Rattle.wire.specs.Messages.{isWhole, question7, question8, question9, messageQuestions, messageAnswer}
+use Rattle.wire.specs.Reading.{takenOf, readingFor, readOf}
+use Rattle.modem_steps.specs.declared.state.Modem.{Modem}
+use Rattle.modem_steps.specs.declared.state.Work.{Work}
+use Rattle.modem_steps.specs.declared.state.Called.{Called}
+use Rattle.modem_steps.specs.Receive.{widthsFit, saidKnown, identifierFits, digestHolds, receiveQuestions, fieldsIn}
+use Rattle.modem.specs.Limits.{modemFits}
+use Rattle.modem_steps.specs.State.{starting}
+use Rattle.modem_steps.specs.Machine.{plainEvent}
+use Rattle.modem.specs.Messages.{outOctets, OutFits}
+use Rattle.modem.specs.Calls.{Result, resultOf, refusedCall, answeredCall, isDone, doneCall, firstQuestions, clockFits}
+
+-- ---- what is given for an answer
+module _ (m : Modem) (lent : List ℕ) (answer : Answer) (w : Work) where
+  pub refused-by : (r : Refusal) (c : Called) → answer ≡ Refused r → c ≡ refusedCall r m → (c ≡ resultOf answer m w .called) × (lent ≡ overlay lent (resultOf answer m w .written))
+  refused-by r c e ec = rw e (ec, refl)
+
+  pub done-by : (v : Work) (c : Called) (after : List ℕ) → answer ≡ Done → v ≡ w → c ≡ doneCall v → after ≡ overlay lent (outOctets (v .out))
+      → (c ≡ resultOf answer m w .called) × (after ≡ overlay lent (resultOf answer m w .written))
+  done-by v c after e ev ec ea = rw e (ec ∙ ap doneCall ev, ea ∙ ap (λ (x : Work). overlay lent (outOctets (x .out))) ev)
+
+-- a refusal of the reader's is handed on as it is
+pub handed-on : (m : Modem) (lent : List ℕ) (w : Work) (read answer : Answer) (c : Called) → isDone read ≡ false → ((r : Refusal) → read ≡ Refused r → answer ≡ Refused r)
+    → c ≡ answeredCall read m → (c ≡ resultOf answer m w .called) × (lent ≡ overlay lent (resultOf answer m w .written))
+handed-on m lent w Done answer c e same ec = let z : _≡_ {A = ℕ} 0 1 = cc in absurd (omega arith)
+handed-on m lent w (Refused r) answer c e same ec = rw (same r refl) (ec, refl)
+
+pub is-done : (a : Answer) → isDone a ≡ true → a ≡ Done
+is-done Done e = refl
+is-done (Refused r) e = let z : _≡_ {A = ℕ} 0 1 = cc in absurd (omega arith)
+
+-- ---- questions 1 and 2, before any others
+module _ (m : Modem) (lent : ℕ) (qs : List Question) where
+  pub limits-no : modemFits m ≡ false → firstNo (firstQuestions m lent ++ qs) ≡ Refused OutOfLimits
+  limits-no e = simp e
+
+  pub length-no : modemFits m ≡ true → lent < 216 → firstNo (firstQuestions m lent ++ qs) ≡ Refused WrongLength
+  length-no e short = simp (e, lt-leb 216 lent short)
+
+  pub first-met : modemFits m ≡ true → 216 ≤ lent → firstNo (firstQuestions m lent ++ qs) ≡ firstNo qs
+  first-met e long = simp (e, le-leb 216 lent long)
+
+-- ---- question 3
+module _ (m : Modem) (t : ℕ) where
+  pub clock-early : t < m .clock → clockFits m t ≡ false
+  unfolding clockFits
+  clock-early early = simp (lt-leb (m .clock) t early)
+
+  pub clock-late : 1000000000000 < t → clockFits m t ≡ false
+  unfolding clockFits
+  clock-late late = simp (lt-leb t 1000000000000 late, and-false)
+
+  pub clock-met : m .clock ≤ t → t ≤ 1000000000000 → clockFits m t ≡ true
+  unfolding clockFits
+  clock-met on small = simp (le-leb (m .clock) t on, le-leb t 1000000000000 small)
+
+pub clock-no : (b : Bool) → b ≡ false → firstNo (record { refusal = ClockOutOfOrder; met = b } ∷ []) ≡ Refused ClockOutOfOrder
+clock-no b e = simp e
+
+pub clock-yes : (b : Bool) → b ≡ true → firstNo (record { refusal = ClockOutOfOrder; met = b } ∷ []) ≡ Done
+clock-yes b e = simp e
+
+-- ---- a reading
+pub read-answer : (e : Receiver) (s : List ℕ) → readOf e s .answer ≡ messageAnswer e s
+unfolding readOf takenOf
+read-answer e s = go (messageAnswer e s)
+  where
+    go : (a : Answer) → readingFor a s .answer ≡ a
+    go Done = refl
+    go (Refused r) = refl
+
+pub read-fields : (e : Receiver) (s : List ℕ) → messageAnswer e s ≡ Done → readOf e s .fields ≡ fieldsIn s
+unfolding readOf
+read-fields e s d = rw d
+
+-- ---- questions 6 to 12: those of the reader come first
+abbrev four : Bool → Bool → Bool → Bool → List Question → List Question
+four a b c d rest =
+    record { refusal = CutMessage; met = a }
+    ∷ record { refusal = CodeNotReceived; met = b }
+    ∷ record { refusal = BadAttribute; met = c }
+    ∷ record { refusal = WrongAttributes; met = d }
+    ∷ rest
+
+reader-no : (a b c d w : Bool) (rest : List Question) (r : Refusal) → firstNo (four a b c d []) ≡ Refused r → firstNo (four a b c (d && w) rest) ≡ Refused r
+reader-no false b c d w rest r e = e
+reader-no true false c d w rest r e = e
+reader-no true true false d w rest r e = e
+reader-no true true true false w rest r e = e
+reader-no true true true true w rest r e = let z : _≡_ {A = ℕ} 0 1 = cc in absurd (omega arith)
+
+reader-yes : (a b c d w : Bool) (rest : List Question) → firstNo (four a b c d []) ≡ Done → firstNo (four a b c (d && w) rest) ≡ cond w (firstNo rest) (Refused WrongAttributes)
+reader-yes false b c d w rest e = let z : _≡_ {A = ℕ} 0 1 = cc in absurd (omega arith)
+reader-yes true false c d w rest e = let z : _≡_ {A = ℕ} 0 1 = cc in absurd (omega arith)
+reader-yes true true false d w rest e = let z : _≡_ {A = ℕ} 0 1 = cc in absurd (omega arith)
+reader-yes true true true false w rest e = let z : _≡_ {A = ℕ} 0 1 = cc in absurd (omega arith)
+reader-yes true true true true w rest e = refl
+
+module _ (m : Modem) (s : List ℕ) (digest : Bool) where
+  abbrev later : List Question
+  later =
+      record { refusal = UnknownSaid; met = saidKnown m (fieldsIn s) }
+      ∷ record { refusal = WrongIdentifier; met = identifierFits m (fieldsIn s) }
+      ∷ record { refusal = DigestFails; met = digestHolds digest (fieldsIn s) }
+      ∷ []
+
+  pub message-no : (r : Refusal) → messageAnswer AtModem s ≡ Refused r → firstNo (receiveQuestions m s digest) ≡ Refused r
+  unfolding messageAnswer messageQuestions receiveQuestions
+  message-no r e = reader-no (isWhole s) (question7 AtModem s) (question8 s) (question9 s) (widthsFit m (fieldsIn s)) later r e
+
+  module _ (taken : messageAnswer AtModem s ≡ Done) where
+    asked : firstNo (receiveQuestions m s digest) ≡ cond (widthsFit m (fieldsIn s)) (firstNo later) (Refused WrongAttributes)
+    unfolding messageAnswer messageQuestions receiveQuestions
+    asked = reader-yes (isWhole s) (question7 AtModem s) (question8 s) (question9 s) (widthsFit m (fieldsIn s)) later taken
+
+    pub widths-no : widthsFit m (fieldsIn s) ≡ false → firstNo (receiveQuestions m s digest) ≡ Refused WrongAttributes
+    widths-no e = asked ∙ simp e
+
+    module _ (wide : widthsFit m (fieldsIn s) ≡ true) where
+      pub said-no : saidKnown m (fieldsIn s) ≡ false → firstNo (receiveQuestions m s digest) ≡ Refused UnknownSaid
+      said-no e = asked ∙ simp (wide, e)
+
+      module _ (known : saidKnown m (fieldsIn s) ≡ true) where
+        pub identifier-no : identifierFits m (fieldsIn s) ≡ false → firstNo (receiveQuestions m s digest) ≡ Refused WrongIdentifier
+        identifier-no e = asked ∙ simp (wide, known, e)
+
+        pub digest-no : identifierFits m (fieldsIn s) ≡ true → digestHolds digest (fieldsIn s) ≡ false → firstNo (receiveQuestions m s digest) ≡ Refused DigestFails
+        digest-no i e = asked ∙ simp (wide, known, i, e)
+
+        pub all-met : identifierFits m (fieldsIn s) ≡ true → digestHolds digest (fieldsIn s) ≡ true → firstNo (receiveQuestions m s digest) ≡ Done
+        all-met i e = asked ∙ simp (wide, known, i, e)
+
+-- ---- the work of a call by another name for it
+pub event-there : (m : Modem) (event : ℕ) (v w : Work) → v ≡ starting m → w ≡ plainEvent v event → w ≡ plainEvent (starting m) event
+event-there m event v w ev e = e ∙ ap (λ (x : Work). plainEvent x event) ev
+
+pub out-there : (w v : Work) → w ≡ v → OutFits (v .out) 6 → OutFits (w .out) 6
+out-there w v e fits = subst (λ (x : Work). OutFits (x .out) 6) (sym e) fits
+
+-- ---- a reading by its result
+module _ (s : List ℕ) (r : Reading) (e : r ≡ readOf AtModem s) where
+  reading-answer : r .answer ≡ messageAnswer AtModem s
+  reading-answer = ap (λ (x : Reading). x .answer) e ∙ read-answer AtModem s
+
+  pub reading-done : isDone (r .answer) ≡ true → messageAnswer AtModem s ≡ Done
+  reading-done d = sym reading-answer ∙ is-done (r .answer) d
+
+  pub reading-no : (x : Refusal) → r .answer ≡ Refused x → messageAnswer AtModem s ≡ Refused x
+  reading-no x d = sym reading-answer ∙ d
+
+  pub reading-fields : isDone (r .answer) ≡ true → r .fields ≡ fieldsIn s
+  reading-fields d = ap (λ (x : Reading). x .fields) e ∙ read-fields AtModem s (reading-done d)

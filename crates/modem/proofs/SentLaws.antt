@@ -1,0 +1,310 @@
+-- The messages of each step can be written, and at most six go out in one call, so none is dropped.
+use mathlib.Core.Path.{_≡_, refl}
+use mathlib.Core.Bool.{Bool, true, false, _&&_, cond, not}
+use mathlib.Core.List.{List}
+use Prim.Native.Nat.{ℕ, zero, suc, _+_, _≤_, _<_}
+use native.Mathlib.Omega.{arith}
+use lib.Dec.{ltb, leb, eqb}
+use lib.ListN.{length, getD, set, getD-replicate, List·getD-eq-default}
+use lib.Seq.{getD-set-same, getD-set-other, set-out}
+use borrow.Author.Tests.{leb-false, ltb-true, eqb-true, eqb-false}
+use Rattle.keys.specs.declared.numbers.AkNumber.{AkNumber}
+use Rattle.keys.proofs.TestLaws.{both}
+use Rattle.keys.proofs.ListLaws.{IfLt, if-lt}
+use Rattle.wire.specs.declared.fields.Fields.{Fields}
+use Rattle.wire.specs.declared.fields.Params.{Params}
+use Rattle.wire.specs.Fields.{noParams}
+use Rattle.machines.specs.declared.tek.Tek.{Tek}
+use Rattle.machines.specs.declared.tek.TekMoment.{TekMoment}
+use Rattle.machines.specs.declared.tek.TekStep.{TekStep}
+use Rattle.machines.specs.Transitions.{A, D, blank, authorizationNext}
+use Rattle.machines.specs.Timers.{isDue}
+use Rattle.machines.specs.Tek.{tekStepOf}
+use Rattle.machines.specs.Authorization.{authStepOf}
+use Rattle.modem_steps.specs.declared.state.Modem.{Modem}
+use Rattle.modem_steps.specs.declared.state.Work.{Work}
+use Rattle.modem_steps.specs.State.{withMachines, withClock, pastTek, noTek, slotAt, pushed, starting}
+use Rattle.modem_steps.specs.Slots.{tekMoment, steppedAt, toldReply, told, toldAll, slotOfSaid, slotAsking}
+use Rattle.modem_steps.specs.Relist.{descriptorAt, lists, emptied, appended, keptIf, keptOne, keptTo, freshTek, startedIf, startedOne, startedTo, listedAnew, relisted}
+use Rattle.modem_steps.specs.Machine.{authMoment, authStepped, authTold, plainEvent, replied, rejectEvent, rejected, pendedIf, invalidated}
+use Rattle.modem_steps.specs.Clock.{authTimerEvent, tekTimerEvent, authFired, slotFired, slotsFired, clocked}
+use Rattle.modem_steps.specs.Receive.{received}
+use Rattle.modem.specs.Messages.{OutFits}
+use Rattle.modem.proofs.OutLaws.{tek-sends, tek-said, auth-informs, auth-requests, auth-ak, out-none, out-wider, pushed-fits}
+
+-- ---- what messages carry is in range
+pub record Sayable (m : Modem) : Type 0 where
+  pub own : m .said ≤ 16383
+  pub slots : (i : ℕ) → i < 4 → slotAt m i .said ≤ 16383
+  pub ak : m .authorization .ak .0 ≤ 15
+
+-- and at most n messages have gone out
+pub record Sends (w : Work) (n : ℕ) : Type 0 where
+  pub modem : Sayable (w .modem)
+  pub out : OutFits (w .out) n
+
+pub sends-wider : (w : Work) (n k : ℕ) → n ≤ k → Sends w n → Sends w k
+sends-wider w n k h s = record { modem = s .modem; out = out-wider (w .out) n k h (s .out) }
+
+sends-either : (b : Bool) (v w : Work) (n : ℕ) → Sends v n → Sends w n → Sends (cond b v w) n
+sends-either true v w n p q = p
+sends-either false v w n p q = q
+
+pub sends-none : (m : Modem) → Sayable m → Sends (starting m) 0
+sends-none m s = record { modem = s; out = out-none }
+
+-- ---- one machine
+set-small : (l : List Tek) (i j : ℕ) (t : Tek) → t .said ≤ 16383 → getD l j pastTek .said ≤ 16383 → getD (set l i t) j pastTek .said ≤ 16383
+set-small l i j t small old = go (eqb j i) refl
+  where
+    here : (b : Bool) → ltb i (length l) ≡ b → IfLt i (length l) b → getD (set l i t) i pastTek .said ≤ 16383
+    here true e inside = rw (getD-set-same l i t pastTek inside) small
+    here false e over = rw (set-out l i t over, List·getD-eq-default l pastTek over) (omega arith)
+
+    go : (b : Bool) → eqb j i ≡ b → getD (set l i t) j pastTek .said ≤ 16383
+    go true e = rw (eqb-true j i e) (here (ltb i (length l)) refl (if-lt i (length l)))
+    go false e = rw (getD-set-other l i j t pastTek (eqb-false j i e)) old
+
+pub told-sends : (w : Work) (i event : ℕ) (older newer : Params) (n : ℕ) → i < 4 → n < 6 → Sends w n → Sends (toldReply w i event older newer) (n + 1)
+unfolding toldReply steppedAt
+told-sends w i event older newer n in-four room s =
+    let t = slotAt (w .modem) i in
+    let x = tekMoment (w .modem) in
+    let small : t .said ≤ 16383 = s .modem .slots i in-four in
+    let after : tekStepOf t event x older newer .machine .said ≤ 16383 = rw (tek-said t event x older newer) small in
+    record {
+      modem =
+          record {
+            own = s .modem .own;
+            slots = λ j h. set-small (w .modem .teks) i j (tekStepOf t event x older newer .machine) after (s .modem .slots j h);
+            ak = s .modem .ak;
+          };
+      out = pushed-fits (w .out) (tekStepOf t event x older newer .sends) n room (s .out) (tek-sends t event x older newer small (s .modem .ak));
+    }
+
+pub auth-sends : (w : Work) (event : ℕ) (ak : AkNumber) (life n : ℕ) → ak .0 ≤ 15 → n < 5 → Sends w n → Sends (authTold w event ak life) (n + 2)
+unfolding authTold authStepped
+auth-sends w event ak life n low room s =
+    let a = w .modem .authorization in
+    let x = authMoment (w .modem) ak life in
+    let one = pushed-fits (w .out) (authStepOf a event x .informs) n (omega arith) (s .out) (auth-informs a event x) in
+    let two =
+    pushed-fits (pushed (w .out) (authStepOf a event x .informs)) (authStepOf a event x .requests) (n + 1) (omega arith) one
+    (auth-requests a event x (s .modem .own)) in
+    record {
+      modem = record { own = s .modem .own; slots = s .modem .slots; ak = auth-ak a event x (s .modem .ak) low };
+      out = out-wider (pushed (pushed (w .out) (authStepOf a event x .informs)) (authStepOf a event x .requests)) (n + 1 + 1) (n + 2) (omega arith) two;
+    }
+
+-- at most two messages
+pub plain-sends : (m : Modem) (event : ℕ) → Sayable m → Sends (plainEvent (starting m) event) 2
+plain-sends m event s = auth-sends (starting m) event (record { 0 = 0 }) 0 0 (omega arith) (omega arith) (sends-none m s)
+
+pub all-sends : (k event : ℕ) (w : Work) (n : ℕ) → k ≤ 4 → n + k ≤ 6 → Sends w n → Sends (toldAll k event w) (n + k)
+unfolding toldAll
+all-sends zero event w n in-four room s = sends-wider w n (n + 0) (omega arith) s
+all-sends (suc k) event w n in-four room s =
+    sends-wider (told (toldAll k event w) k event) (n + k + 1) (n + suc k) (omega arith)
+    (told-sends (toldAll k event w) k event noParams noParams (n + k) (omega arith) (omega arith)
+    (all-sends k event w n (omega arith) (omega arith) s))
+
+-- ---- the clock: two of the authorization machine, one of each slot
+fired-sends : (k : ℕ) (w : Work) (n : ℕ) → k ≤ 4 → n + k ≤ 6 → Sends w n → Sends (slotsFired k w) (n + k)
+unfolding slotsFired slotFired
+fired-sends zero w n in-four room s = sends-wider w n (n + 0) (omega arith) s
+fired-sends (suc k) w n in-four room s =
+    let v = slotsFired k w in
+    let before = fired-sends k w n (omega arith) (omega arith) s in
+    let event = tekTimerEvent (slotAt (v .modem) k .state) in
+    sends-either (isDue (slotAt (v .modem) k .timer) (v .modem .clock)) (told v k event) v (n + suc k)
+    (sends-wider (told v k event) (n + k + 1) (n + suc k) (omega arith)
+    (told-sends v k event noParams noParams (n + k) (omega arith) (omega arith) before))
+    (sends-wider v (n + k) (n + suc k) (omega arith) before)
+
+pub clocked-sends : (m : Modem) (t : ℕ) → Sayable m → Sends (clocked m t) 6
+unfolding clocked authFired
+clocked-sends m t s =
+    let c = withClock m t in
+    let now : Sayable c = record { own = s .own; slots = s .slots; ak = s .ak } in
+    let event = authTimerEvent (m .authorization .state) in
+    fired-sends 4 (authFired (starting c)) 2 (omega arith) (omega arith)
+    (sends-either (isDue (m .authorization .timer) t) (plainEvent (starting c) event) (starting c) 2
+    (plain-sends c event now)
+    (sends-wider (starting c) 0 2 (omega arith) (sends-none c now)))
+
+-- ---- an Authorization Reply: after it, no more messages than two and the slots in use
+pub record Listing (w : Work) : Type 0 where
+  pub sends : Sends w (2 + w .modem .used)
+  pub used : w .modem .used ≤ 4
+
+listing-either : (b : Bool) (v w : Work) → (b ≡ true → Listing v) → Listing w → Listing (cond b v w)
+listing-either true v w p q = p refl
+listing-either false v w p q = q
+
+emptied-listing : (w : Work) → Sends w 2 → Listing (emptied w)
+unfolding emptied
+emptied-listing w s =
+    record {
+      sends =
+          record {
+            modem = record { own = s .modem .own; slots = λ i h. rw (getD-replicate 4 i noTek pastTek h) (omega arith); ak = s .modem .ak };
+            out = s .out;
+          };
+      used = omega arith;
+    }
+
+-- where a slot is free
+abbrev placed : Work → TekStep → Work
+placed w s =
+    record {
+      modem = withMachines (w .modem) (s .counter) (w .modem .authorization) (w .modem .used + 1) (set (w .modem .teks) (w .modem .used) (s .machine));
+      out = pushed (w .out) (s .sends);
+    }
+
+appended-listing : (w : Work) (t : Tek) (event : ℕ) → t .said ≤ 16383 → Listing w → Listing (appended w (tekStepOf t event (tekMoment (w .modem)) noParams noParams))
+unfolding appended
+appended-listing w t event small l = go (leb 4 (w .modem .used)) refl
+  where
+    x : TekMoment
+    x = tekMoment (w .modem)
+
+    s : TekStep
+    s = tekStepOf t event x noParams noParams
+
+    go : (b : Bool) → leb 4 (w .modem .used) ≡ b → Listing (cond b w (placed w s))
+    go true e = l
+    go false e =
+        let less : w .modem .used < 4 = leb-false 4 (w .modem .used) e in
+        let after : s .machine .said ≤ 16383 = rw (tek-said t event x noParams noParams) small in
+        record {
+          sends =
+              record {
+                modem =
+                    record {
+                      own = l .sends .modem .own;
+                      slots = λ j h. set-small (w .modem .teks) (w .modem .used) j (s .machine) after (l .sends .modem .slots j h);
+                      ak = l .sends .modem .ak;
+                    };
+                out =
+                    out-wider (pushed (w .out) (s .sends)) (2 + w .modem .used + 1) (2 + (w .modem .used + 1)) (omega arith)
+                    (pushed-fits (w .out) (s .sends) (2 + w .modem .used) (omega arith) (l .sends .out)
+                    (tek-sends t event x noParams noParams small (l .sends .modem .ak)));
+              };
+          used = omega arith;
+        }
+
+kept-listing : (k : ℕ) (f : Fields) (old : Modem) (w : Work) → k ≤ 4 → Sayable old → Listing w → Listing (keptTo k f old w)
+unfolding keptTo keptOne keptIf
+kept-listing zero f old w in-four s l = l
+kept-listing (suc k) f old w in-four s l =
+    let t = slotAt old k in
+    let v = keptTo k f old w in
+    let before = kept-listing k f old w (omega arith) s l in
+    listing-either (ltb k (old .used) && lists f (t .said) (t .suite) && not (eqb (t .state) A)) (appended v (tekStepOf t 4 (tekMoment (v .modem)) noParams noParams)) v
+    (λ e. appended-listing v t 4 (s .slots k (omega arith)) before) before
+
+started-listing : (k : ℕ) (f : Fields) (w : Work) → ((i : ℕ) → i < f .count → descriptorAt f i .said ≤ 16383) → Listing w → Listing (startedTo k f w)
+unfolding startedTo startedOne startedIf
+started-listing zero f w small l = l
+started-listing (suc k) f w small l =
+    let d = descriptorAt f k in
+    let v = startedTo k f w in
+    let before = started-listing k f w small l in
+    listing-either (ltb k (f .count) && leb 4 (slotOfSaid (v .modem) (d .said))) (appended v (tekStepOf (freshTek d) 2 (tekMoment (v .modem)) noParams noParams)) v
+    (λ e.
+    let in-count = both (ltb k (f .count)) (leb 4 (slotOfSaid (v .modem) (d .said))) e .0 in
+    appended-listing v (freshTek d) 2 (small k (ltb-true k (f .count) in-count)) before) before
+
+listing-sends : (w : Work) → Listing w → Sends w 6
+listing-sends w l = sends-wider w (2 + w .modem .used) 6 (omega (arith, l .used)) (l .sends)
+
+-- What the steps use of a message's fields is in range
+pub record Heard (f : Fields) : Type 0 where
+  pub ak : f .ak .0 ≤ 15
+  pub listed : (i : ℕ) → i < f .count → descriptorAt f i .said ≤ 16383
+
+replied-sends : (m : Modem) (f : Fields) → Sayable m → Heard f → Sends (replied m f) 6
+unfolding replied relisted listedAnew
+replied-sends m f s h =
+    let w = authTold (starting m) 4 (f .ak) (f .life) in
+    let two : Sends w 2 = auth-sends (starting m) 4 (f .ak) (f .life) 0 (h .ak) (omega arith) (sends-none m s) in
+    let empty : Listing (emptied w) = emptied-listing w two in
+    sends-either (eqb (m .authorization .state) D) (relisted f w) (listedAnew f w) 6
+    (listing-sends (relisted f w) (started-listing 4 f (keptTo 4 f (w .modem) (emptied w)) (h .listed) (kept-listing 4 f (w .modem) (emptied w) (omega arith) (two .modem) empty)))
+    (listing-sends (listedAnew f w) (started-listing 4 f (emptied w) (h .listed) empty))
+
+-- ---- the other messages
+rejected-sends : (m : Modem) (error : ℕ) → Sayable m → Sends (rejected m error) 6
+unfolding rejected
+rejected-sends m error s =
+    let w = plainEvent (starting m) (rejectEvent error) in
+    let two : Sends w 2 = plain-sends m (rejectEvent error) s in
+    sends-either (eqb (m .authorization .state) D) (toldAll 4 1 w) w 6 (all-sends 4 1 w 2 (omega arith) (omega arith) two) (sends-wider w 2 6 (omega arith) two)
+
+invalidated-sends : (m : Modem) (identifier : ℕ) → Sayable m → Sends (invalidated m identifier) 6
+unfolding invalidated
+invalidated-sends m identifier s =
+    let i = slotAsking m identifier in
+    let w = plainEvent (starting m) 7 in
+    let two : Sends w 2 = plain-sends m 7 s in
+    sends-either (eqb (authorizationNext 7 (m .authorization .state)) blank) (starting m) (pendedIf (ltb 0 identifier && ltb i 4) w i) 6
+    (sends-wider (starting m) 0 6 (omega arith) (sends-none m s))
+    (go (ltb 0 identifier) (ltb i 4) refl two)
+  where
+    i : ℕ
+    i = slotAsking m identifier
+
+    w : Work
+    w = plainEvent (starting m) 7
+
+    go : (b c : Bool) → ltb i 4 ≡ c → Sends w 2 → Sends (pendedIf (b && c) w i) 6
+    go true true e two = sends-wider (told w i 3) 3 6 (omega arith) (told-sends w i 3 noParams noParams 2 (ltb-true i 4 e) (omega arith) two)
+    go true false e two = sends-wider w 2 6 (omega arith) two
+    go false c e two = sends-wider w 2 6 (omega arith) two
+
+-- what holds of each code's work holds of the work of a message that is taken
+pub by-received : (m : Modem) (f : Fields) (P : Work → Type 0)
+    → (f .code ≡ 5 → P (replied m f))
+    → (f .code ≡ 6 → P (rejected m (f .error)))
+    → (f .code ≡ 8 → P (toldReply (starting m) (slotOfSaid m (f .said)) 8 (f .older) (f .newer)))
+    → (f .code ≡ 9 → P (told (starting m) (slotOfSaid m (f .said)) 9))
+    → (f .code ≡ 10 → P (invalidated m (f .identifier)))
+    → ((f .code ≡ 5 → ⊥) → (f .code ≡ 6 → ⊥) → (f .code ≡ 10 → ⊥) → P (told (starting m) (slotOfSaid m (f .said)) 5))
+    → P (received m f)
+unfolding received
+by-received m f P p₅ p₆ p₈ p₉ p₁₀ p₁₁ =
+    go (eqb (f .code) 5) refl (eqb (f .code) 6) refl (eqb (f .code) 8) refl (eqb (f .code) 9) refl (eqb (f .code) 10) refl
+  where
+    i : ℕ
+    i = slotOfSaid m (f .said)
+
+    go : (c₅ : Bool) → eqb (f .code) 5 ≡ c₅ → (c₆ : Bool) → eqb (f .code) 6 ≡ c₆ → (c₈ : Bool) → eqb (f .code) 8 ≡ c₈
+        → (c₉ : Bool) → eqb (f .code) 9 ≡ c₉ → (c₁₀ : Bool) → eqb (f .code) 10 ≡ c₁₀
+        → P (cond c₅ (replied m f) (cond c₆ (rejected m (f .error)) (cond c₈ (toldReply (starting m) i 8 (f .older) (f .newer))
+        (cond c₉ (told (starting m) i 9) (cond c₁₀ (invalidated m (f .identifier)) (told (starting m) i 5))))))
+    go true e₅ c₆ e₆ c₈ e₈ c₉ e₉ c₁₀ e₁₀ = p₅ (eqb-true (f .code) 5 e₅)
+    go false e₅ true e₆ c₈ e₈ c₉ e₉ c₁₀ e₁₀ = p₆ (eqb-true (f .code) 6 e₆)
+    go false e₅ false e₆ true e₈ c₉ e₉ c₁₀ e₁₀ = p₈ (eqb-true (f .code) 8 e₈)
+    go false e₅ false e₆ false e₈ true e₉ c₁₀ e₁₀ = p₉ (eqb-true (f .code) 9 e₉)
+    go false e₅ false e₆ false e₈ false e₉ true e₁₀ = p₁₀ (eqb-true (f .code) 10 e₁₀)
+    go false e₅ false e₆ false e₈ false e₉ false e₁₀ = p₁₁ (eqb-false (f .code) 5 e₅) (eqb-false (f .code) 6 e₆) (eqb-false (f .code) 10 e₁₀)
+
+pub received-sends : (m : Modem) (f : Fields) → Sayable m → Heard f
+    → ((f .code ≡ 5 → ⊥) → (f .code ≡ 6 → ⊥) → (f .code ≡ 10 → ⊥) → slotOfSaid m (f .said) < 4)
+    → Sends (received m f) 6
+received-sends m f s h known =
+    by-received m f (λ w. Sends w 6)
+    (λ e. replied-sends m f s h)
+    (λ e. rejected-sends m (f .error) s)
+    (λ e. one 8 (f .older) (f .newer) (known (λ q. omega (arith, q)) (λ q. omega (arith, q)) (λ q. omega (arith, q))))
+    (λ e. one 9 noParams noParams (known (λ q. omega (arith, q)) (λ q. omega (arith, q)) (λ q. omega (arith, q))))
+    (λ e. invalidated-sends m (f .identifier) s)
+    (λ n₅ n₆ n₁₀. one 5 noParams noParams (known n₅ n₆ n₁₀))
+  where
+    i : ℕ
+    i = slotOfSaid m (f .said)
+
+    one : (event : ℕ) (older newer : Params) → i < 4 → Sends (toldReply (starting m) i event older newer) 6
+    one event older newer in-four =
+        sends-wider (toldReply (starting m) i event older newer) 1 6 (omega arith)
+        (told-sends (starting m) i event older newer 0 in-four (omega arith) (sends-none m s))

@@ -1,0 +1,13 @@
+-- `modem::messages::request_fields` meets its contract.
+use borrow.Author.Needs.{needs}
+use Rattle.modem.proofs.messages.request_fields.Statement.{statement}
+use Rattle.modem.proofs.messages.request_fields.Tie as tie
+
+no-params-requires : tie.Need-no-params-requires
+no-params-requires c κs = search needs
+
+returns : tie.Need-returns
+returns c = cc
+
+pub request-fields-spec : {M : Type 1} → statement M
+request-fields-spec = tie.close (tie.spec no-params-requires returns)

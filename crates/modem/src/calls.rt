@@ -1,0 +1,194 @@
+// The modem's calls, in document 01's order: new, established, reauth, clock, receive. Each asks its questions and has no `requires`; a
+// refusal changes and writes nothing.
+ghost use mathlib.Core.Path.{_≡_};
+ghost use Prim.Native.Nat.{_≤_};
+ghost use lib.ListN.{length};
+ghost use Rattle.keys.specs.Octets.{overlay};
+ghost use Rattle.modem_steps.specs.State.{noSettings};
+ghost use Rattle.modem.specs.Messages.{outOctets, OutFits};
+ghost use Rattle.modem.specs.Calls.{refusedCall, answeredCall, isDone, doneCall, newOf, eventOf, establishedOf, reauthOf, clockOf, receiveOf};
+use crate::limits::modem_fits;
+use crate::messages::put_out;
+use crate::receive::digest_holds;
+use crate::receive::identifier_fits;
+use crate::receive::received;
+use crate::receive::said_known;
+use crate::receive::widths_fit;
+use keys::refusal::Answer;
+use keys::refusal::Refusal;
+use keys::settings::AkTimes;
+use keys::settings::Settings;
+use keys::settings::TekTimes;
+use keys::settings::Waits;
+use keys::settings::settings_fit;
+use modem_steps::clock::clocked;
+use modem_steps::state::Called;
+use modem_steps::state::Modem;
+use modem_steps::state::Work;
+use modem_steps::state::fresh;
+use modem_steps::state::start;
+use reader::read::read;
+use wire::fields::Receiver;
+
+fn refused(m: Modem, r: Refusal) -> Called
+    ensures { λ c. ⌜ c ≡ refusedCall r m ⌝ }
+{
+    Called {
+        answer: Answer::Refused(r),
+        modem: m,
+        count: 0,
+    }
+}
+
+fn is_done(a: Answer) -> bool
+    ensures { λ r. ⌜ r ≡ isDone a ⌝ }
+{
+    match a {
+        Answer::Done => true,
+        Answer::Refused(_) => false,
+    }
+}
+
+// A refusal as the reader gave it.
+fn answered(m: Modem, a: Answer) -> Called
+    ensures { λ c. ⌜ c ≡ answeredCall a m ⌝ }
+{
+    Called {
+        answer: a,
+        modem: m,
+        count: 0,
+    }
+}
+
+// The modem after its work, with its messages written.
+fn done(w: Work, out: &mut [u8]) -> Called
+    requires { ⌜ OutFits (w .out) 6 × (216 ≤ length (now out)) ⌝ }
+    ensures { λ c. ⌜ (c ≡ doneCall w) × (now (out .exit) ≡ overlay (now (out .entry)) (outOctets (w .out))) ⌝ }
+{
+    let o = w.out;
+    let m = w.modem;
+    let n = put_out(o, out);
+    Called {
+        answer: Answer::Done,
+        modem: m,
+        count: n,
+    }
+}
+
+fn no_settings() -> Settings
+    ensures { λ r. ⌜ r ≡ noSettings ⌝ }
+{
+    let tek = TekTimes { life: 0, grace: 0 };
+    let ak = AkTimes { life: 0, grace: 0 };
+    let waits = Waits {
+        authorize: 0,
+        reauthorize: 0,
+        operational: 0,
+        rekey: 0,
+        reject: 0,
+    };
+    Settings {
+        tek: tek,
+        ak: ak,
+        waits: waits,
+    }
+}
+
+// A fresh modem at clock 0; where it is refused, one that is all zero.
+pub fn new(settings: Settings, address: u64, said: u16) -> Called
+    ensures { λ c. ⌜ c ≡ newOf settings address said ⌝ }
+{
+    if settings_fit(settings) & (address < 281474976710656) & (said <= 16383) {
+        let m = fresh(settings, address, said);
+        return Called {
+            answer: Answer::Done,
+            modem: m,
+            count: 0,
+        };
+    }
+    let m = fresh(no_settings(), 0, 0);
+    refused(m, Refusal::OutOfLimits)
+}
+
+// An event of the authorization machine that comes from the modem's own side.
+fn event_call(m: Modem, event: u8, out: &mut [u8]) -> Called
+    ensures { λ c. ⌜ (c ≡ eventOf event m (length (now (out .entry))) .called)
+        × (now (out .exit) ≡ overlay (now (out .entry)) (eventOf event m (length (now (out .entry))) .written)) ⌝ }
+{
+    if !modem_fits(m) {
+        return refused(m, Refusal::OutOfLimits);
+    }
+    if out.len() < 216 {
+        return refused(m, Refusal::WrongLength);
+    }
+    let w = start(m).plain_event(event);
+    done(w, out)
+}
+
+pub fn established(m: Modem, out: &mut [u8]) -> Called
+    ensures { λ c. ⌜ (c ≡ establishedOf m (length (now (out .entry))) .called)
+        × (now (out .exit) ≡ overlay (now (out .entry)) (establishedOf m (length (now (out .entry))) .written)) ⌝ }
+{
+    event_call(m, 1, out)
+}
+
+pub fn reauth(m: Modem, out: &mut [u8]) -> Called
+    ensures { λ c. ⌜ (c ≡ reauthOf m (length (now (out .entry))) .called)
+        × (now (out .exit) ≡ overlay (now (out .entry)) (reauthOf m (length (now (out .entry))) .written)) ⌝ }
+{
+    event_call(m, 8, out)
+}
+
+// The clock goes to `t`.
+pub fn clock(m: Modem, t: u64, out: &mut [u8]) -> Called
+    ensures { λ c. ⌜ (c ≡ clockOf m t (length (now (out .entry))) .called)
+        × (now (out .exit) ≡ overlay (now (out .entry)) (clockOf m t (length (now (out .entry))) .written)) ⌝ }
+{
+    if !modem_fits(m) {
+        return refused(m, Refusal::OutOfLimits);
+    }
+    if out.len() < 216 {
+        return refused(m, Refusal::WrongLength);
+    }
+    if t < m.clock {
+        return refused(m, Refusal::ClockOutOfOrder);
+    }
+    if 1000000000000 < t {
+        return refused(m, Refusal::ClockOutOfOrder);
+    }
+    let w = clocked(m, t);
+    done(w, out)
+}
+
+// A message comes; `digest` says whether its digest holds.
+pub fn receive(m: Modem, message: &[u8], digest: bool, out: &mut [u8]) -> Called
+    ensures { λ c. ⌜ (c ≡ receiveOf m (now (message .entry)) digest (length (now (out .entry))) .called)
+        × (now (out .exit) ≡ overlay (now (out .entry)) (receiveOf m (now (message .entry)) digest (length (now (out .entry))) .written)) ⌝ }
+{
+    if !modem_fits(m) {
+        return refused(m, Refusal::OutOfLimits);
+    }
+    if out.len() < 216 {
+        return refused(m, Refusal::WrongLength);
+    }
+    let r = read(Receiver::Modem, message);
+    let answer = r.answer;
+    let f = r.fields;
+    if !is_done(answer) {
+        return answered(m, answer);
+    }
+    if !widths_fit(m, f) {
+        return refused(m, Refusal::WrongAttributes);
+    }
+    if !said_known(m, f) {
+        return refused(m, Refusal::UnknownSaid);
+    }
+    if !identifier_fits(m, f) {
+        return refused(m, Refusal::WrongIdentifier);
+    }
+    if !digest_holds(digest, f) {
+        return refused(m, Refusal::DigestFails);
+    }
+    let w = received(m, f);
+    done(w, out)
+}

@@ -1,0 +1,14 @@
+pub mod BoolLaws
+pub mod KeyLaws
+pub mod ItemLaws
+pub mod TurnLaws
+pub mod SlotLaws
+pub mod HitLaws
+pub mod InsideLaws
+pub mod BodyLaws
+pub mod PlaceLaws
+pub mod CodeLaws
+pub mod SoundLaws
+pub mod ToldLaws
+pub mod TakenLaws
+pub mod ReadLaws

@@ -1,0 +1,5 @@
+pub mod Next
+pub mod Slots
+pub mod Pass
+pub mod Compounds
+pub mod Taken

@@ -1,0 +1,196 @@
+// The reading of a message: questions 6 to 9 in their order, then the fields (document 01, Messages).
+ghost use mathlib.Core.Path.{_≡_};
+ghost use Prim.Native.Nat.{_≤_};
+ghost use Rattle.wire.specs.declared.fields.Receiver.the-variants.{HeadEnd, Modem};
+ghost use Rattle.wire.specs.Messages.{lengthOf, isWhole, receives};
+ghost use Rattle.wire.specs.Reading.{readOf};
+ghost use Rattle.reader.specs.Taken.{widthsOf, toldIn, takenFrom, refusedReading};
+use crate::compound::Compounds;
+use crate::compound::compounds_in;
+use crate::compound::no_descriptors;
+use crate::compound::no_params;
+use crate::octets::be16_of;
+use crate::octets::be32_of;
+use crate::octets::octet;
+use crate::octets::part;
+use crate::pass::Body;
+use crate::pass::pass_body;
+use keys::numbers::AkNumber;
+use keys::refusal::Answer;
+use keys::refusal::Refusal;
+use keys::suites::width;
+use wire::fields::Fields;
+use wire::fields::Place;
+use wire::fields::Reading;
+use wire::fields::Receiver;
+
+fn length_of(s: &[u8]) -> usize
+    ensures { λ r. ⌜ (r ≡ lengthOf (now (s .entry))) × (r ≤ 65535) ⌝ }
+{
+    (octet(s, 2) as usize) * 256 + (octet(s, 3) as usize)
+}
+
+// Question 6.
+fn is_whole(s: &[u8]) -> bool
+    ensures { λ r. ⌜ r ≡ isWhole (now (s .entry)) ⌝ }
+{
+    let n = length_of(s);
+    (4 <= s.len()) & (n <= 1490) & (4 + n <= s.len())
+}
+
+// Question 7, by the code.
+fn head_end_receives(c: u8) -> bool
+    ensures { λ r. ⌜ r ≡ receives HeadEnd c ⌝ }
+{
+    match c {
+        4 | 7 | 12 => true,
+        _ => false,
+    }
+}
+
+fn modem_receives(c: u8) -> bool
+    ensures { λ r. ⌜ r ≡ receives Modem c ⌝ }
+{
+    match c {
+        5..=6 | 8..=11 => true,
+        _ => false,
+    }
+}
+
+fn is_received(e: Receiver, c: u8) -> bool
+    ensures { λ r. ⌜ r ≡ receives e c ⌝ }
+{
+    match e {
+        Receiver::HeadEnd => head_end_receives(c),
+        Receiver::Modem => modem_receives(c),
+    }
+}
+
+// Question 9 of a body, by the code: its needed attributes are there as often as told, and the digest is the last of all.
+fn is_told(c: u8, b: Body) -> bool
+    ensures { λ r. ⌜ r ≡ toldIn c b ⌝ }
+{
+    let slots = b.slots;
+    let number = slots[0].n == 1;
+    let said = slots[1].n == 1;
+    let life = slots[2].n == 1;
+    let error = slots[3].n == 1;
+    let key = slots[4].n == 1;
+    let digest = (slots[5].n == 1) & (b.last == 11);
+    match c {
+        4 => said,
+        5 => key & life & number & (1 <= b.count) & (b.count <= 4),
+        6 | 10 => error,
+        7 => number & said & digest,
+        8 => number & said & digest & (b.count == 2),
+        9 | 11 => number & said & error & digest,
+        _ => true,
+    }
+}
+
+fn refused(r: Refusal) -> Reading
+    ensures { λ q. ⌜ q ≡ refusedReading r ⌝ }
+{
+    let fields = Fields {
+        code: 0,
+        identifier: 0,
+        ak: AkNumber(0),
+        said: 0,
+        life: 0,
+        error: 0,
+        count: 0,
+        descriptors: no_descriptors(),
+        older: no_params(),
+        newer: no_params(),
+    };
+    let nowhere = Place { start: 0, len: 0 };
+    Reading {
+        answer: Answer::Refused(r),
+        fields,
+        key: nowhere,
+        digest: nowhere,
+    }
+}
+
+// The fields of message m, from what the passes kept.
+fn taken(m: &[u8], b: Body, k: Compounds) -> Reading
+    ensures { λ r. ⌜ r ≡ takenFrom (now (m .entry)) b k ⌝ }
+{
+    let slots = b.slots;
+    let number = slots[0];
+    let said = slots[1];
+    let life = slots[2];
+    let error = slots[3];
+    let key = slots[4];
+    let digest = slots[5];
+    let descriptors = k.descriptors;
+    let older = k.older;
+    let newer = k.newer;
+    let fields = Fields {
+        code: octet(m, 0),
+        identifier: octet(m, 1),
+        ak: AkNumber(octet(part(m, number.start, number.len), 0)),
+        said: be16_of(part(m, said.start, said.len)),
+        life: be32_of(part(m, life.start, life.len)),
+        error: octet(part(m, error.start, error.len), 0),
+        count: k.count,
+        descriptors,
+        older,
+        newer,
+    };
+    Reading {
+        answer: Answer::Done,
+        fields,
+        key: Place {
+            start: key.start,
+            len: key.len,
+        },
+        digest: Place {
+            start: digest.start,
+            len: digest.len,
+        },
+    }
+}
+
+pub fn read(e: Receiver, s: &[u8]) -> Reading
+    ensures { λ r. ⌜ r ≡ readOf e (now (s .entry)) ⌝ }
+{
+    if !is_whole(s) {
+        return refused(Refusal::CutMessage);
+    }
+    let c = octet(s, 0);
+    if !is_received(e, c) {
+        return refused(Refusal::CodeNotReceived);
+    }
+    let end = 4 + length_of(s);
+    let m = &s[..end];
+    let b = pass_body(m, c);
+    if !b.sound {
+        return refused(Refusal::BadAttribute);
+    }
+    let at = b.compounds;
+    let k = compounds_in(c, m, b.count, at);
+    if !k.sound {
+        return refused(Refusal::BadAttribute);
+    }
+    if !is_told(c, b) {
+        return refused(Refusal::WrongAttributes);
+    }
+    if !k.told {
+        return refused(Refusal::WrongAttributes);
+    }
+    taken(m, b, k)
+}
+
+// Whether TEK and vector of both TEK-Parameters have the width of a suite: the part of question 9 that a modem asks of a known SAID.
+pub fn suite_widths(suite: u16, f: Fields) -> bool
+    ensures { λ r. ⌜ r ≡ widthsOf suite f ⌝ }
+{
+    let w = width(suite);
+    let older = f.older;
+    let newer = f.newer;
+    (older.tek.width == w)
+        & (older.vector.width == w)
+        & (newer.tek.width == w)
+        & (newer.vector.width == w)
+}

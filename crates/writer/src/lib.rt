@@ -1,0 +1,7 @@
+// The writer of BPKM messages, all nine codes, into a lent slice (document 01, "Messages"). `write::write` has no `requires`.
+mod lengths;
+pub mod limits;
+mod message;
+pub mod needed;
+mod put;
+pub mod write;
