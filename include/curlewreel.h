@@ -1,6 +1,6 @@
 /* Curlewreel, the key engine of Baseline Privacy Plus, for C. Link libfirmware.a (made by `rt staticlib firmware`).
  * Every function is proved to do what its comment says, for all arguments; nothing checks this header against the library, so the
- * programs under outside/ call each function and compare. A slice is passed as a pointer and a length; a pointer is never null
+ * programs under examples/ call each function, and the gate compares what they print. A slice is passed as a pointer and a length; a pointer is never null
  * unless its length is 0, and the lent slices of one call do not overlap. */
 #ifndef CURLEWREEL_H
 #define CURLEWREEL_H

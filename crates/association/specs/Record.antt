@@ -24,7 +24,7 @@ recordFits half clock a =
     && follows (a .older) (a .newer)
     && deadlinesFit half clock (a .older .deadline) (a .newer .deadline)
 
--- What the clock's rule needs so that no sum wraps; `RollLaws` shows that a record within the limits has it
+-- What the clock's rule needs so that no sum wraps; `RecordLaws` shows that a record within the limits has it
 pub record Rollable (half t : ℕ) (a : Assoc) : Type 0 where
   pub half-small : half ≤ 302400
   pub clock-small : t ≤ 1000000000000

@@ -65,6 +65,11 @@ pub record Edges : Type 0 where
       → mints 900 1800 m 0 (line s k) ≡ generation s 2 1800 2700 m 0 ∷ generation s 3 1800 3600 m 32 ∷ []
   -- generation 16: number 0. Fifteen clock calls every H make it, and the key that a record shows of it has number 0
   pub sixteenth : (s : SaidSuite) (k m : List ℕ) → clocked m seconds (line s k) .newer ≡ generation s 16 13500 15300 m 0
+  pub sixteenth-record : (s : SaidSuite) (k m : List ℕ)
+      → rolledOf 900 13500 m 0 (holding s (generation s 14 11700 13500 k 0) (generation s 15 12600 14400 k 32))
+      ≡ holding s (generation s 15 12600 14400 k 32) (generation s 16 13500 15300 m 0)
+  pub sixteenth-record-number : (s : SaidSuite) (k m : List ℕ)
+      → rolledOf 900 13500 m 0 (holding s (generation s 14 11700 13500 k 0) (generation s 15 12600 14400 k 32)) .newer .number ≡ record { 0 = 0 }
   pub sixteenth-number : (s : SaidSuite) (k m : List ℕ) → keyOf (clocked m seconds (line s k) .newer) .number ≡ record { 0 = 0 }
   -- C + Invalid: D
   pub invalid-in-c : authorizationNext 7 C ≡ D

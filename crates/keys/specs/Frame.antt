@@ -1,17 +1,24 @@
 -- Which held key opens a frame (document 01, "Traffic keys at the head-end", "Modem: TEK machine" and question 13).
-use mathlib.Core.Bool.{Bool, cond, _&&_, _||_}
+use mathlib.Core.Bool.{Bool, cond, _&&_}
 use Prim.Native.Nat.{ℕ}
 use lib.Dec.{ltb}
-use mathlib.Core.List.{List, []}
 use Rattle.keys.specs.declared.numbers.TekNumber.{TekNumber}
 use Rattle.keys.specs.declared.traffic.TrafficKey.{TrafficKey}
 use Rattle.keys.specs.declared.frame.Opening.{Opening}
 use Rattle.keys.specs.declared.frame.Opening.the-variants.{ByOlder, ByNewer, ByNeither}
+use Rattle.keys.specs.declared.refusal.Refusal.the-variants.{NoKeyForFrame}
 use Rattle.keys.specs.Numbers.{sameTek}
+use Rattle.keys.specs.Refusal.{numberOf}
 
 -- A key opens frames of its number while its deadline is after the clock
 unfoldable pub serves : ℕ → TekNumber → TrafficKey → Bool
 serves clock number k = sameTek (k .number) number && ltb clock (k .deadline)
+
+-- Document 01's number of each case: a key opens the frame, or there is none and the refusal is 13
+abbrev pub openingNumber : Opening → ℕ
+openingNumber ByOlder = 0
+openingNumber ByNewer = 0
+openingNumber ByNeither = numberOf NoKeyForFrame
 
 -- Whichever held key has the frame's number and counts
 unfoldable pub openingOf : ℕ → TekNumber → TrafficKey → TrafficKey → Opening

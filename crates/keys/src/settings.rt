@@ -16,7 +16,7 @@ pub struct AkTimes {
     pub grace: u64,
 }
 
-// How long a modem waits in each state that has a retry timer, in seconds.
+// How long a modem waits before a timeout in each waiting state, in seconds.
 #[repr(C)]
 pub struct Waits {
     pub authorize: u64,

@@ -1,5 +1,5 @@
 -- What an event does to the authorization machine itself (document 01, "Modem: authorization machine"). Its effects on the TEK machines
--- stand in crate `modem`.
+-- stand in crate `modem_steps`.
 use Prim.Native.Nat.{ℕ, _+_, _-_, _≤_}
 use mathlib.Core.Bool.{Bool, cond, _&&_, _||_, not}
 use lib.Dec.{eqb}

@@ -31,7 +31,7 @@ pub struct Tek {
     pub pair: Pair,
 }
 
-// The record of a message to go out; `code` is 0 where nothing is sent, and what the code does not carry is zero.
+// The record of a message to go out, a request or Authentication Information; `code` is 0 where nothing is sent, and what the code does not carry is zero.
 #[repr(C)]
 pub struct Request {
     pub code: u8,
@@ -138,7 +138,7 @@ fn counter_after(event: u8, to: u8, counter: u8) -> u8
     counter
 }
 
-// Seconds of a life that is left when the grace begins, 0 where the grace is longer.
+// Seconds of a life before its grace begins, 0 where the grace is longer.
 pub fn less(life: u64, grace: u64) -> u64
     ensures { λ r. ⌜ r ≡ life - grace ⌝ }
 {

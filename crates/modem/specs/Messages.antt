@@ -38,7 +38,7 @@ requestsOctets (r ∷ rs) = requestOctets r ++ requestsOctets rs
 unfoldable pub outOctets : Out → List ℕ
 outOctets o = requestsOctets (take (o .count) (o .sent))
 
--- ---- what writing them asks; `OutLaws` and `SentLaws` show that what a modem within its limits sends has it
+-- ---- what writing them asks; `SentFits` shows that what a modem within its limits sends has it
 
 -- A message that the writer takes, of at most 36 octets
 pub record RequestFits (r : Request) : Type 0 where

@@ -1,4 +1,4 @@
-// The modem's calls, in document 01's order: new, established, reauth, clock, receive. Each asks its questions and has no `requires`; a
+// The modem's calls: new, established, reauth, clock, receive. Each asks its questions in document 01's order and has no `requires`; a
 // refusal changes and writes nothing.
 ghost use mathlib.Core.Path.{_≡_};
 ghost use Prim.Native.Nat.{_≤_};

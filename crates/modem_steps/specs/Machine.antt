@@ -40,11 +40,11 @@ authStepped w s =
 unfoldable pub authTold : Work → ℕ → AkNumber → ℕ → Work
 authTold w event ak life = authStepped w (authStepOf (w .modem .authorization) event (authMoment (w .modem) ak life))
 
--- Established, timeout, grace and reauth change no TEK machine
+-- Any event but a Reply; established, timeout, grace and reauth are no more than this
 abbrev pub plainEvent : Work → ℕ → Work
 plainEvent w event = authTold w event (record { 0 = 0 }) 0
 
--- A Reply, in B or D
+-- A Reply. It is taken in B and D alone: question 11 asks for a waiting Request
 unfoldable pub replied : Modem → Fields → Work
 replied m f =
     cond (eqb (m .authorization .state) D) (relisted f (authTold (starting m) 4 (f .ak) (f .life)))

@@ -19,7 +19,7 @@ use Rattle.modem_steps.specs.State.{slotAt, starting}
 use Rattle.modem_steps.specs.Slots.{told, toldReply, slotOfSaid, isWaiting, slotAsking}
 use Rattle.modem_steps.specs.Machine.{replied, rejected, invalidated}
 
--- The codes about one SAID: Key Reply, Key Reject, TEK Invalid. They are the ones with a digest
+-- The codes about one SAID: Key Reply, Key Reject, TEK Invalid. Of those that a modem receives they are the ones with a digest
 abbrev pub ofSaid : ℕ → Bool
 ofSaid code = eqb code 8 || eqb code 9 || eqb code 11
 

@@ -69,14 +69,14 @@ slotAt m i = getD (m .teks) i pastTek
 abbrev pub noOut : Out
 noOut = record { count = 0; sent = replicate 6 nothing }
 
--- One message more, where there is one; `Counts` shows that there is always room
+-- One message more, where there is one; `SentFits` and `NoneDropped` of crate `modem` show that there is always room
 unfoldable pub pushed : Out → Request → Out
 pushed o r = cond (eqb (r .code) 0) o (cond (leb 6 (o .count)) o (record { count = o .count + 1; sent = set (o .sent) (o .count) r }))
 
 abbrev pub starting : Modem → Work
 starting m = record { modem = m; out = noOut }
 
--- ---- a fresh modem (document 01, "Settings"): clock 0, nothing waiting, no SAID known but its own
+-- ---- a fresh modem (document 01, "Settings"): clock 0, nothing waiting, no SAID known; its own SAID is only sent
 abbrev pub freshAuthorization : Authorization
 freshAuthorization = record { state = 0; identifier = 0; ak = record { 0 = 0 }; timer = off }
 

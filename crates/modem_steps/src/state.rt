@@ -62,7 +62,7 @@ pub fn no_tek() -> Tek
     }
 }
 
-// A modem at clock 0 that knows no SAID but its own.
+// A modem at clock 0 that knows no SAID; its own is only sent.
 pub fn fresh(settings: Settings, address: u64, said: u16) -> Modem
     ensures { λ r. ⌜ r ≡ freshOf settings address said ⌝ }
 {

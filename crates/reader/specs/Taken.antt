@@ -6,7 +6,6 @@ use lib.ListN.{getD, take, drop}
 use lib.Dec.{leb, eqb}
 use Rattle.keys.specs.declared.refusal.Refusal.{Refusal}
 use Rattle.keys.specs.declared.refusal.Answer.the-variants.{Done, Refused}
-use Rattle.keys.specs.Suites.{widthOf}
 use Rattle.wire.specs.declared.fields.Fields.{Fields}
 use Rattle.wire.specs.declared.fields.Place.{Place}
 use Rattle.wire.specs.declared.fields.Reading.{Reading}
@@ -67,11 +66,3 @@ takenFrom m b k =
 
 abbrev pub refusedReading : Refusal → Reading
 refusedReading r = record { answer = Refused r; fields = noFields; key = noPlace; digest = noPlace }
-
--- ---- question 9 of a known SAID's suite
-unfoldable pub widthsOf : ℕ → Fields → Bool
-widthsOf suite f =
-    eqb (f .older .tek .width) (widthOf suite)
-    && eqb (f .older .vector .width) (widthOf suite)
-    && eqb (f .newer .tek .width) (widthOf suite)
-    && eqb (f .newer .vector .width) (widthOf suite)

@@ -4,7 +4,7 @@ ghost use Prim.Native.Nat.{_≤_};
 ghost use Rattle.wire.specs.declared.fields.Receiver.the-variants.{HeadEnd, Modem};
 ghost use Rattle.wire.specs.Messages.{lengthOf, isWhole, receives};
 ghost use Rattle.wire.specs.Reading.{readOf};
-ghost use Rattle.reader.specs.Taken.{widthsOf, toldIn, takenFrom, refusedReading};
+ghost use Rattle.reader.specs.Taken.{toldIn, takenFrom, refusedReading};
 use crate::compound::Compounds;
 use crate::compound::compounds_in;
 use crate::compound::no_descriptors;
@@ -18,7 +18,6 @@ use crate::pass::pass_body;
 use keys::numbers::AkNumber;
 use keys::refusal::Answer;
 use keys::refusal::Refusal;
-use keys::suites::width;
 use wire::fields::Fields;
 use wire::fields::Place;
 use wire::fields::Reading;
@@ -180,17 +179,4 @@ pub fn read(e: Receiver, s: &[u8]) -> Reading
         return refused(Refusal::WrongAttributes);
     }
     taken(m, b, k)
-}
-
-// Whether TEK and vector of both TEK-Parameters have the width of a suite: the part of question 9 that a modem asks of a known SAID.
-pub fn suite_widths(suite: u16, f: Fields) -> bool
-    ensures { λ r. ⌜ r ≡ widthsOf suite f ⌝ }
-{
-    let w = width(suite);
-    let older = f.older;
-    let newer = f.newer;
-    (older.tek.width == w)
-        & (older.vector.width == w)
-        & (newer.tek.width == w)
-        & (newer.vector.width == w)
 }

@@ -1,13 +1,17 @@
 -- What is written is read back: the fields, the AUTH-Key's place and the digest's, for all nine codes and with padding behind.
 use Prim.Native.Nat.{ℕ, _+_, _-_, _≤_}
 use mathlib.Core.Path.{_≡_, refl, sym, ap, _∙_}
-use mathlib.Core.List.{List, [], _++_}
-use mathlib.Core.Bool.{Bool, true, false, cond}
+use mathlib.Core.List.{List, [], _∷_, _++_}
+use mathlib.Core.Bool.{Bool, true, false, cond, _&&_}
+use lib.Dec.{leb}
 use lib.ListN.{length, getD, length-append}
 use lib.Seq.{take-at}
 use native.Mathlib.Omega.{arith}
 use borrow.Author.Tests.{le-leb}
 use Rattle.keys.specs.declared.refusal.Answer.the-variants.{Done}
+use Rattle.keys.specs.declared.refusal.Refusal.the-variants.{OutOfLimits, WrongLength}
+use Rattle.keys.specs.Questions.{firstNo}
+use Rattle.keys.proofs.TestLaws.{both}
 use Rattle.wire.specs.declared.fields.Fields.{Fields}
 use Rattle.wire.specs.declared.fields.Place.{Place}
 use Rattle.wire.specs.Attributes.{items, values, valueAt, startFrom, two, octets}
@@ -15,7 +19,7 @@ use Rattle.wire.specs.Ranges.{neededOf, among, needs, sound}
 use Rattle.wire.specs.Messages.{lengthOf, bodyOf, isWhole, receives, receiverOf, messageAnswer}
 use Rattle.wire.specs.Reading.{noPlace, placeOf, takenOf, readOf}
 use Rattle.wire.specs.Limits.{fieldsFit, authKeyFits}
-use Rattle.wire.specs.Writing.{itemsOfType, itemsOfTypes, itemsOf, message, messageOf}
+use Rattle.wire.specs.Writing.{itemsOfType, itemsOfTypes, itemsOf, message, messageOf, writeOf, writtenOf, writeQuestions, noDigest}
 use Rattle.wire.proofs.AttributesLaws.{items-octets}
 use Rattle.wire.proofs.HoldsLaws.{never, length-attr}
 use Rattle.wire.proofs.MessageAnswers.{answer-done}
@@ -165,3 +169,18 @@ written-12 f key digest s e k n c =
     let l = written-lengths f key digest s e k n in
     let most : mostOctets (f .code) ≡ 4 = ap mostOctets c in
     omega arith
+
+-- The same of the writer's call: what it writes is read back, also with padding behind
+pub call-read : (f : Fields) (key padding : List ℕ) (lent : ℕ) → Shaped f → writeOf f key lent .answer ≡ Done
+    → readOf (receiverOf (f .code)) (writtenOf f key lent ++ padding)
+    ≡ record { answer = Done; fields = f; key = keyPlace f key; digest = digestPlace f key noDigest }
+unfolding writeOf writtenOf writeQuestions
+call-read f key padding lent shaped done =
+    let asked = both-met (fieldsFit f) (authKeyFits f (length key) && leb (length (messageOf f key noDigest)) lent) done in
+    let second = both (authKeyFits f (length key)) (leb (length (messageOf f key noDigest)) lent) (asked .1) in
+    rw (asked .0, asked .1) (written-read f key noDigest padding shaped (asked .0) (second .0) refl)
+  where
+    both-met : (a b : Bool) → firstNo (record { refusal = OutOfLimits; met = a } ∷ record { refusal = WrongLength; met = b } ∷ []) ≡ Done → (a ≡ true) × (b ≡ true)
+    both-met true true e = (refl, refl)
+    both-met true false e = let z : _≡_ {A = ℕ} 0 1 = cc in absurd (omega arith)
+    both-met false b e = let z : _≡_ {A = ℕ} 0 1 = cc in absurd (omega arith)

@@ -48,7 +48,7 @@ countOf k l = length (values k l)
 unfoldable pub valueAt : ℕ → ℕ → List Item → List ℕ
 valueAt k n l = getD (values k l) n []
 
--- The type of the last attribute; 256 where there is none
+-- The type of the last attribute; 256 where there is none, or a cut
 unfoldable pub lastFrom : ℕ → List Item → ℕ
 lastFrom d [] = d
 lastFrom d (attr k v ∷ l) = lastFrom k l

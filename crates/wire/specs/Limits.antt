@@ -1,4 +1,5 @@
--- Question 1 of fields to be written: what the reader would refuse to read back is refused (document 01, "Messages", question 1).
+-- Question 1 of fields to be written (document 01, "Messages", question 1): what would not be read back as it is, or what the
+-- receiving end would refuse, is refused.
 use Prim.Native.Nat.{ℕ, _+_, _%_}
 use mathlib.Core.List.{List, [], _∷_}
 use mathlib.Core.Bool.{Bool, true, _&&_, _||_, not, cond}

@@ -1,4 +1,4 @@
-// Question 1 of fields to be written: what the reader would refuse to read back is refused (document 01, "Messages").
+// Question 1 of fields to be written: what would not be read back as it is, or what the receiving end would refuse, is refused.
 ghost use Prim.Native.Nat.{_<_};
 ghost use mathlib.Core.Path.{_≡_};
 ghost use mathlib.Core.Bool.{_&&_, true};

@@ -1,0 +1,10 @@
+-- `machines::tek::is_sending` meets its contract.
+use mathlib.Core.Path.{refl}
+use Rattle.machines.proofs.tek.is_sending.Statement.{statement}
+use Rattle.machines.proofs.tek.is_sending.Tie as tie
+
+returns : tie.Need-returns
+returns c = refl
+
+pub is-sending-spec : {M : Type 1} → statement M
+is-sending-spec = tie.close (tie.spec returns)
