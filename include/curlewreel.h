@@ -1,6 +1,7 @@
 /* Curlewreel, the key engine of Baseline Privacy Plus, for C. Link libfirmware.a (made by `rt staticlib firmware`).
  * Every function is proved to do what its comment says, for all arguments; nothing checks this header against the library, so the
- * programs under examples/ call each function, and the gate compares what they print. A slice is passed as a pointer and a length; a pointer is never null
+ * programs under examples/ call each function, and the gate compares what they
+ * print. A slice is passed as a pointer and a length; a pointer is never null
  * unless its length is 0, and the lent slices of one call do not overlap. */
 #ifndef CURLEWREEL_H
 #define CURLEWREEL_H
@@ -41,5 +42,78 @@ enum {
 uint8_t curlewreel_frame(uint64_t clock, uint8_t older_number, uint64_t older_deadline, uint8_t newer_number,
                          uint64_t newer_deadline, size_t width, const uint8_t *keys, size_t keys_len, uint8_t number,
                          uint8_t *tek, size_t tek_len, uint8_t *vector, size_t vector_len);
+
+/* The fields of a message in octets. A number of two or four octets has the higher first. What a message's code does not carry is
+ * zero. The first CURLEWREEL_FIELDS_WRITTEN octets are what a writing takes; a reading gives all CURLEWREEL_FIELDS. */
+enum {
+    CURLEWREEL_FIELD_CODE = 0,           /* 1 octet */
+    CURLEWREEL_FIELD_IDENTIFIER = 1,     /* 1 */
+    CURLEWREEL_FIELD_AK_NUMBER = 2,      /* 1: the authorization key's number */
+    CURLEWREEL_FIELD_ERROR = 3,          /* 1: the error code */
+    CURLEWREEL_FIELD_COUNT = 4,          /* 1: how many descriptors there are */
+    CURLEWREEL_FIELD_SAID = 5,           /* 2 */
+    CURLEWREEL_FIELD_LIFE = 7,           /* 4: the authorization key's life in seconds */
+    CURLEWREEL_FIELD_DESCRIPTORS = 11,   /* four of CURLEWREEL_DESCRIPTOR octets */
+    CURLEWREEL_FIELD_OLDER = 31,         /* TEK-Parameters, CURLEWREEL_PARAMS octets */
+    CURLEWREEL_FIELD_NEWER = 70,         /* the same */
+    CURLEWREEL_FIELDS_WRITTEN = 109,     /* the octets before this place are the fields that a message is written from */
+    CURLEWREEL_FIELD_KEY_START = 109,    /* 2: where the AUTH-Key's octets start in the message */
+    CURLEWREEL_FIELD_KEY_LENGTH = 111,   /* 2: how many they are */
+    CURLEWREEL_FIELD_DIGEST_START = 113, /* 2: the same of the digest */
+    CURLEWREEL_FIELD_DIGEST_LENGTH = 115,
+    CURLEWREEL_FIELDS = 117
+};
+
+/* Within a descriptor. */
+enum {
+    CURLEWREEL_DESCRIPTOR_SAID = 0,  /* 2 */
+    CURLEWREEL_DESCRIPTOR_TYPE = 2,  /* 1 */
+    CURLEWREEL_DESCRIPTOR_SUITE = 3, /* 2 */
+    CURLEWREEL_DESCRIPTOR = 5
+};
+
+/* Within TEK-Parameters. TEK and vector stand at the front of 16 octets each, zeros after them. */
+enum {
+    CURLEWREEL_PARAMS_NUMBER = 0,        /* 1 */
+    CURLEWREEL_PARAMS_LIFE = 1,          /* 4 */
+    CURLEWREEL_PARAMS_TEK_WIDTH = 5,     /* 1: 8 or 16 */
+    CURLEWREEL_PARAMS_TEK = 6,           /* 16 */
+    CURLEWREEL_PARAMS_VECTOR_WIDTH = 22, /* 1 */
+    CURLEWREEL_PARAMS_VECTOR = 23,       /* 16 */
+    CURLEWREEL_PARAMS = 39
+};
+
+/* The ends that read. */
+enum { CURLEWREEL_HEAD_END = 0, CURLEWREEL_MODEM = 1 };
+
+/* Reads a message of any octets at an end. Octets after the message's own length are padding.
+ * Gives 0 and writes the fields and the two places to the first CURLEWREEL_FIELDS octets of `fields`; its other octets stay as
+ * they were. The digest is not checked.
+ * Refuses, and then writes nothing:
+ *   1  `end` is not 0 or 1
+ *   2  `fields` has fewer than CURLEWREEL_FIELDS octets
+ *   6  fewer than four octets, a length above 1,490, or fewer octets than the length says
+ *   7  a code that this end does not receive
+ *   8  an attribute that runs past its holder, or a value out of its range
+ *   9  a needed attribute is not there as often as told, the digest is not the last, or what two attributes say does not agree */
+uint8_t curlewreel_read(uint8_t end, const uint8_t *message, size_t message_len, uint8_t *fields, size_t fields_len);
+
+/* What a writing answers: the number, and how many octets it wrote. */
+typedef struct {
+    uint8_t number;
+    size_t count;
+} curlewreel_written;
+
+/* Writes the message of the fields in the first CURLEWREEL_FIELDS_WRITTEN octets of `fields`: the needed attributes in the standard
+ * order, with zeros for the digest's 20 octets. A reading's CURLEWREEL_FIELDS octets may be given as they are.
+ *   auth_key: the AUTH-Key's octets, 1 to 256 of them, which an Authorization Reply carries; not looked at for another code.
+ * Gives number 0 and the count of octets at the front of `out`; its other octets stay as they were.
+ * Refuses with count 0, and then writes nothing:
+ *   1  a field is out of its range, or is not zero where the code does not carry it (octets that a short `fields` lacks count as
+ *      zero)
+ *   2  `fields` has fewer than CURLEWREEL_FIELDS_WRITTEN octets, the AUTH-Key has not 1 to 256 where the code carries one, or `out`
+ *      is shorter than the message */
+curlewreel_written curlewreel_write(const uint8_t *fields, size_t fields_len, const uint8_t *auth_key, size_t auth_key_len,
+                                    uint8_t *out, size_t out_len);
 
 #endif

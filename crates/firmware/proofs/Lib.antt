@@ -1,1 +1,4 @@
 pub mod FrameLaws
+pub mod LayoutLaws
+pub mod ReadLaws
+pub mod WriteLaws

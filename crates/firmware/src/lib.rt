@@ -2,3 +2,6 @@
 // questions and has no `requires`; its contract fixes the answer and every lent octet, for refused input too.
 // include/curlewreel.h declares them.
 pub mod frame;
+pub mod layout;
+pub mod read;
+pub mod write;

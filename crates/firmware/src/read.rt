@@ -1,0 +1,39 @@
+// The reading of a message for C: its fields go to a lent slice, as specs/Layout.antt says.
+ghost use mathlib.Core.Path.{_≡_};
+ghost use lib.ListN.{length};
+ghost use Rattle.firmware.specs.Read.{receiverAt, readCallOf, Answers};
+use crate::layout::put_reading;
+use keys::refusal::answer_number;
+use reader::read::read;
+use wire::fields::Receiver;
+
+fn receiver(end: u8) -> Receiver
+    ensures { λ r. ⌜ r ≡ receiverAt end ⌝ }
+{
+    if end == 0 {
+        return Receiver::HeadEnd;
+    }
+    Receiver::Modem
+}
+
+// Reads `message` at the head-end (`end` is 0) or at the modem (1): its fields and two places go to the first 117 octets of `fields`,
+// and the answer is 0. Refused with 1, 2 or 6 to 9, and then nothing is written.
+#[no_mangle]
+pub extern "C" fn curlewreel_read(end: u8, message: &[u8], fields: &mut [u8]) -> u8
+    ensures { λ r. ⌜ Answers (readCallOf «end» (now (message .entry)) (length (now (fields .entry)))) (now (fields .entry)) r (now (fields .exit)) ⌝ }
+{
+    if 1 < end {
+        return 1;
+    }
+    if fields.len() < 117 {
+        return 2;
+    }
+    let r = read(receiver(end), message);
+    let answer = r.answer;
+    let number = answer_number(answer);
+    if number != 0 {
+        return number;
+    }
+    let n = put_reading(fields, r);
+    0
+}

@@ -1,0 +1,98 @@
+/* Messages from C: a Key Request and a Key Reply are written and read back, and a damaged one is refused. */
+#include "curlewreel.h"
+#include <stdio.h>
+#include <string.h>
+
+static const uint8_t none[1];
+static uint8_t fields[CURLEWREEL_FIELDS], message[256], back[CURLEWREEL_FIELDS];
+
+static void put_two(uint8_t *at, unsigned n) {
+    at[0] = (uint8_t)(n >> 8);
+    at[1] = (uint8_t)n;
+}
+
+static void put_four(uint8_t *at, unsigned long n) {
+    put_two(at, (unsigned)(n >> 16));
+    put_two(at + 2, (unsigned)(n & 0xffff));
+}
+
+static unsigned two(const uint8_t *at) { return (unsigned)at[0] << 8 | at[1]; }
+
+static unsigned long four(const uint8_t *at) { return (unsigned long)two(at) << 16 | two(at + 2); }
+
+static void print_octets(const char *name, const uint8_t *octets, size_t n) {
+    printf("  %s", name);
+    for (size_t i = 0; i < n; i++) printf(" %02x", octets[i]);
+    printf("\n");
+}
+
+static void put_params(uint8_t *at, uint8_t number, unsigned long life, uint8_t first) {
+    at[CURLEWREEL_PARAMS_NUMBER] = number;
+    put_four(at + CURLEWREEL_PARAMS_LIFE, life);
+    at[CURLEWREEL_PARAMS_TEK_WIDTH] = 8;
+    at[CURLEWREEL_PARAMS_VECTOR_WIDTH] = 8;
+    for (uint8_t i = 0; i < 8; i++) {
+        at[CURLEWREEL_PARAMS_TEK + i] = (uint8_t)(first + i);
+        at[CURLEWREEL_PARAMS_VECTOR + i] = (uint8_t)(first + 16 + i);
+    }
+}
+
+static void print_params(const char *name, const uint8_t *at) {
+    printf("  %s: number %u, life %lu\n", name, at[CURLEWREEL_PARAMS_NUMBER], four(at + CURLEWREEL_PARAMS_LIFE));
+    print_octets("  tek", at + CURLEWREEL_PARAMS_TEK, at[CURLEWREEL_PARAMS_TEK_WIDTH]);
+    print_octets("  vector", at + CURLEWREEL_PARAMS_VECTOR, at[CURLEWREEL_PARAMS_VECTOR_WIDTH]);
+}
+
+static size_t write_it(const char *name) {
+    memset(message, 0xee, sizeof message);
+    curlewreel_written w = curlewreel_write(fields, sizeof fields, none, 0, message, sizeof message);
+    printf("%s written: %u, %zu octets, the octet after them %02x\n", name, w.number, w.count, message[w.count]);
+    print_octets("message", message, w.count);
+    return w.count;
+}
+
+static void read_it(const char *name, uint8_t end, size_t n) {
+    memset(back, 0xee, sizeof back);
+    uint8_t number = curlewreel_read(end, message, n, back, sizeof back);
+    printf("%s read at end %u: %u\n", name, end, number);
+    if (number != CURLEWREEL_DONE) {
+        printf("  first octet of the fields %02x, last %02x\n", back[0], back[CURLEWREEL_FIELDS - 1]);
+        return;
+    }
+    printf("  code %u, identifier %u, authorization key %u, SAID %u\n", back[CURLEWREEL_FIELD_CODE],
+           back[CURLEWREEL_FIELD_IDENTIFIER], back[CURLEWREEL_FIELD_AK_NUMBER], two(back + CURLEWREEL_FIELD_SAID));
+    if (back[CURLEWREEL_FIELD_CODE] == 8) {
+        print_params("older", back + CURLEWREEL_FIELD_OLDER);
+        print_params("newer", back + CURLEWREEL_FIELD_NEWER);
+    }
+    printf("  digest: %u octets at %u\n", two(back + CURLEWREEL_FIELD_DIGEST_LENGTH), two(back + CURLEWREEL_FIELD_DIGEST_START));
+    printf("  fields as written: %s\n", memcmp(back, fields, CURLEWREEL_FIELDS_WRITTEN) == 0 ? "yes" : "no");
+}
+
+int main(void) {
+    fields[CURLEWREEL_FIELD_CODE] = 7;
+    fields[CURLEWREEL_FIELD_IDENTIFIER] = 115;
+    fields[CURLEWREEL_FIELD_AK_NUMBER] = 7;
+    put_two(fields + CURLEWREEL_FIELD_SAID, 8800);
+    size_t n = write_it("Key Request");
+    read_it("Key Request", CURLEWREEL_HEAD_END, n);
+    read_it("Key Request", CURLEWREEL_MODEM, n);         /* a code that a modem does not receive: 7 */
+
+    fields[CURLEWREEL_FIELD_CODE] = 8;
+    put_params(fields + CURLEWREEL_FIELD_OLDER, 2, 43200, 0x40);
+    put_params(fields + CURLEWREEL_FIELD_NEWER, 3, 86400, 0x80);
+    n = write_it("Key Reply");
+    read_it("Key Reply", CURLEWREEL_MODEM, n);
+    read_it("Cut Key Reply", CURLEWREEL_MODEM, n - 1);   /* 6 */
+    message[6] = 2;
+    read_it("Damaged Key Reply", CURLEWREEL_MODEM, n);   /* the key number's attribute has two octets: 8 */
+    read_it("Key Reply", 2, n);                          /* no such end: 1 */
+
+    fields[CURLEWREEL_FIELD_NEWER + CURLEWREEL_PARAMS_NUMBER] = 4;
+    curlewreel_written w = curlewreel_write(fields, sizeof fields, none, 0, message, sizeof message);
+    printf("Key Reply with number 4 after 2: %u, %zu octets\n", w.number, w.count);
+    fields[CURLEWREEL_FIELD_NEWER + CURLEWREEL_PARAMS_NUMBER] = 3;
+    w = curlewreel_write(fields, sizeof fields, none, 0, message, 107);
+    printf("Key Reply into 107 octets: %u, %zu octets\n", w.number, w.count);
+    return 0;
+}
