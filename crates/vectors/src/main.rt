@@ -1,0 +1,225 @@
+// Prints whether the messages of document 000's appendix I are read and written as it says: I.4, I.5 and I.6.
+use check::same;
+use keys::refusal::Answer;
+use keys::refusal::answer_number;
+use libc::STDOUT_FILENO;
+use reader::octets::part;
+use reader::read::read;
+use wire::fields::Descriptor;
+use wire::fields::Fields;
+use wire::fields::KeyOctets;
+use wire::fields::Params;
+use wire::fields::Place;
+use wire::fields::Receiver;
+use writer::write::write;
+
+fn say(name: &[u8], what: &[u8], is_so: bool) {
+    io::write_all(STDOUT_FILENO, name);
+    io::write_all(STDOUT_FILENO, what);
+    if is_so {
+        io::write_all(STDOUT_FILENO, b" agrees\n");
+        return;
+    }
+    io::write_all(STDOUT_FILENO, b" differs\n");
+}
+
+// Whether a TEK or a vector has 8 octets, with zeros after them.
+fn has_octets(k: KeyOctets, octets: &[u8]) -> bool {
+    let o = k.octets;
+    if k.width != 8 {
+        return false;
+    }
+    same(part(&o, 0, 8), octets) & same(part(&o, 8, 8), b"\0\0\0\0\0\0\0\0")
+}
+
+fn is_at(p: Place, start: usize, len: usize) -> bool {
+    (p.start == start) & (p.len == len)
+}
+
+fn is_empty(p: Params) -> bool {
+    let tek = p.tek;
+    let vector = p.vector;
+    (p.number.0 == 0) & (p.life == 0) & (tek.width == 0) & (vector.width == 0)
+}
+
+fn is_zero(d: Descriptor) -> bool {
+    (d.said == 0) & (d.kind == 0) & (d.suite == 0)
+}
+
+// What every message of these carries, and the error, which none does.
+fn compare_head(name: &[u8], f: Fields, answer: Answer, code: u8, identifier: u8) {
+    say(name, b"answer of the reading", answer_number(answer) == 0);
+    say(name, b"code", f.code == code);
+    say(name, b"identifier", f.identifier == identifier);
+    say(name, b"authorization key number", f.ak.0 == 7);
+    say(name, b"error (not carried)", f.error == 0);
+}
+
+fn compare_params(name: &[u8], p: Params, number: u8, life: u64, tek: &[u8], vector: &[u8]) {
+    let own_tek = p.tek;
+    let own_vector = p.vector;
+    say(name, b"number", p.number.0 == number);
+    say(name, b"life", p.life == life);
+    say(name, b"TEK", has_octets(own_tek, tek));
+    say(name, b"vector", has_octets(own_vector, vector));
+}
+
+fn compare_no_params(name: &[u8], f: Fields) {
+    let older = f.older;
+    let newer = f.newer;
+    say(
+        name,
+        b"TEK-Parameters (not carried)",
+        is_empty(older) & is_empty(newer),
+    );
+}
+
+fn compare_no_descriptors(name: &[u8], f: Fields) {
+    let all = f.descriptors;
+    let none = is_zero(all[0]) & is_zero(all[1]) & is_zero(all[2]) & is_zero(all[3]);
+    say(name, b"SA-Descriptors (not carried)", none & (f.count == 0));
+}
+
+// Whether the fields are written as `m`, with zeros for its last `digest` octets.
+fn is_written_again(f: Fields, key: &[u8], m: &[u8], digest: usize) -> bool {
+    let mut out = [0u8; 256];
+    let zeros = [0u8; 20];
+    let w = write(f, key, &mut out);
+    let answer = w.answer;
+    if answer_number(answer) != 0 {
+        return false;
+    }
+    let n = m.len();
+    if w.count != n {
+        return false;
+    }
+    if n < digest {
+        return false;
+    }
+    let body = n - digest;
+    let is_body = same(part(&out, 0, body), part(m, 0, body));
+    let is_rest = same(part(&out, body, digest), part(&zeros, 0, digest));
+    is_body & is_rest
+}
+
+// The one SA-Descriptor of I.4.
+fn compare_descriptor(name: &[u8], f: Fields) {
+    let all = f.descriptors;
+    let first = all[0];
+    say(name, b"count of SA-Descriptors", f.count == 1);
+    say(name, b"SAID of the SA-Descriptor", first.said == 8800);
+    say(name, b"SA type of the SA-Descriptor", first.kind == 0);
+    say(name, b"suite of the SA-Descriptor", first.suite == 256);
+    say(
+        name,
+        b"other three SA-Descriptors (not carried)",
+        is_zero(all[1]) & is_zero(all[2]) & is_zero(all[3]),
+    );
+}
+
+// I.4. Rows of its AUTH-Key are lost in this copy of the document: `m` has 96 octets of our own there and two lengths to match,
+// 0x7f for the message's 0x11f and 0x60 for the AUTH-Key's 0x100. The other octets are the document's; in its life a letter
+// stands for the 3 of 3a.
+fn authorization_reply(m: &[u8]) {
+    let name = b"I.4 Authorization Reply: ";
+    let r = read(Receiver::Modem, m);
+    let answer = r.answer;
+    let f = r.fields;
+    let key = r.key;
+    let digest = r.digest;
+    io::write_all(
+        STDOUT_FILENO,
+        b"I.4 Authorization Reply: its AUTH-Key is not compared; rows of it are lost, and 96 octets of our own stand there\n",
+    );
+    compare_head(name, f, answer, 5, 1);
+    say(name, b"life", f.life == 604800);
+    say(name, b"SAID (not carried)", f.said == 0);
+    compare_descriptor(name, f);
+    compare_no_params(name, f);
+    say(name, b"place of our AUTH-Key", is_at(key, 7, 96));
+    say(name, b"digest's place (not carried)", is_at(digest, 0, 0));
+    say(
+        name,
+        b"message written again",
+        is_written_again(f, part(m, 7, 96), m, 0),
+    );
+}
+
+// I.5. `m` has its octets. In this copy letters stand for digits: Cyrillic ones in ca, a6 and e6, and l for the 1 of the digest's a1.
+// Two rows are run together as "b2 00 79 01 90 ..": taken as b2 79 90 .. 03 01, then 00 01. Of the digest's row the type, the
+// length and the last three octets are lost: taken from I.5.1. The public key's modulus begins with e0 once in this copy and twice in
+// the input of I.5.1: taken as twice, as its length of 140 asks, and the digest that I.5.1 gives is that of these octets.
+// `standard` is the message without its CM-Identification, which the writer does not write.
+fn key_request(m: &[u8], standard: &[u8]) {
+    let name = b"I.5 Key Request: ";
+    let r = read(Receiver::HeadEnd, m);
+    let answer = r.answer;
+    let f = r.fields;
+    let key = r.key;
+    let digest = r.digest;
+    compare_head(name, f, answer, 7, 115);
+    say(name, b"life (not carried)", f.life == 0);
+    say(name, b"SAID", f.said == 8800);
+    compare_no_descriptors(name, f);
+    compare_no_params(name, f);
+    say(name, b"AUTH-Key's place (not carried)", is_at(key, 0, 0));
+    say(name, b"digest's place", is_at(digest, 192, 20));
+    say(
+        name,
+        b"message written again (without CM-Identification, digest zeroed)",
+        is_written_again(f, b"", standard, 20),
+    );
+}
+
+// I.6. `m` has its octets. In this copy the letter O stands for the 0 of 0f and 0b.
+fn key_reply(m: &[u8]) {
+    let name = b"I.6 Key Reply: ";
+    let r = read(Receiver::Modem, m);
+    let answer = r.answer;
+    let f = r.fields;
+    let key = r.key;
+    let digest = r.digest;
+    let older = f.older;
+    let newer = f.newer;
+    compare_head(name, f, answer, 8, 115);
+    say(name, b"life (not carried)", f.life == 0);
+    say(name, b"SAID", f.said == 8800);
+    compare_no_descriptors(name, f);
+    compare_params(
+        b"I.6 Key Reply: older ",
+        older,
+        2,
+        43200,
+        b"\xb6\x4d\x54\x8c\x3f\x6b\x25\x69",
+        b"\x81\x0e\x52\x8e\x1c\x5f\xda\x1a",
+    );
+    compare_params(
+        b"I.6 Key Reply: newer ",
+        newer,
+        3,
+        86400,
+        b"\x5e\xbd\x03\xaa\x5e\xd5\xe2\x94",
+        b"\x25\x35\x67\xc3\x09\x21\x8c\x2c",
+    );
+    say(name, b"AUTH-Key's place (not carried)", is_at(key, 0, 0));
+    say(name, b"digest's place", is_at(digest, 88, 20));
+    say(
+        name,
+        b"message written again (digest zeroed)",
+        is_written_again(f, b"", m, 20),
+    );
+}
+
+fn main() {
+    let i4 =
+        b"\x05\x01\x00\x7f\x07\x00\x60\x80\x81\x82\x83\x84\x85\x86\x87\x88\x89\x8a\x8b\x8c\x8d\x8e\x8f\x90\x91\x92\x93\x94\x95\x96\x97\x98\x99\x9a\x9b\x9c\x9d\x9e\x9f\xa0\xa1\xa2\xa3\xa4\xa5\xa6\xa7\xa8\xa9\xaa\xab\xac\xad\xae\xaf\xb0\xb1\xb2\xb3\xb4\xb5\xb6\xb7\xb8\xb9\xba\xbb\xbc\xbd\xbe\xbf\xc0\xc1\xc2\xc3\xc4\xc5\xc6\xc7\xc8\xc9\xca\xcb\xcc\xcd\xce\xcf\xd0\xd1\xd2\xd3\xd4\xd5\xd6\xd7\xd8\xd9\xda\xdb\xdc\xdd\xde\xdf\x09\x00\x04\x00\x09\x3a\x80\x0a\x00\x01\x07\x17\x00\x0e\x0c\x00\x02\x22\x60\x18\x00\x01\x00\x14\x00\x02\x01\x00";
+    let i5 =
+        b"\x07\x73\x00\xd0\x05\x00\xad\x01\x00\x0c\x30\x30\x30\x30\x30\x30\x31\x32\x33\x34\x35\x36\x02\x00\x03\x25\x53\x41\x03\x00\x06\x00\x00\xca\x01\x04\x01\x04\x00\x8c\x30\x81\x89\x02\x81\x81\x00\xe0\xe0\x6c\x8d\xbe\xb2\x8b\xc9\xf3\xa6\x3d\xa1\x12\xea\xf7\x99\xf7\x3d\x3e\xfa\xa3\xb1\xe2\x42\x95\x71\xb5\x71\xd2\x32\x7a\xda\x10\x40\xe2\x5b\x09\x74\x69\x08\x78\x46\x37\x71\x34\x3e\x69\xa7\x37\x6d\xf8\x70\x1d\xaa\xa5\x34\xb0\x33\xa3\x43\xac\x4d\xeb\x41\x5e\x0a\x8a\xfd\xa6\x0a\x4b\x09\x7f\x5a\x18\xf2\x9e\xc2\x22\xa6\x6b\x9a\x69\x73\x22\xd5\x37\xc9\x63\xb0\x88\xf5\x60\x5d\x99\x16\x33\x54\x53\x30\xed\x35\xde\x0c\x87\x3b\x54\xba\x59\x22\x3e\xb2\x79\x90\x96\x61\xdb\xf3\x4a\x37\x18\x4c\x7f\xa8\xca\xee\xd6\x31\x02\x03\x01\x00\x01\x0a\x00\x01\x07\x0c\x00\x02\x22\x60\x0b\x00\x14\x86\xb8\x33\xb7\x48\x9c\x4b\xa1\x51\x67\x44\xd7\xa6\xe6\xca\x21\x33\xf5\x22\x9e";
+    let standard =
+        b"\x07\x73\x00\x20\x0a\x00\x01\x07\x0c\x00\x02\x22\x60\x0b\x00\x14\x00\x00\x00\x00\x00\x00\x00\x00\x00\x00\x00\x00\x00\x00\x00\x00\x00\x00\x00\x00";
+    let i6 =
+        b"\x08\x73\x00\x68\x0a\x00\x01\x07\x0c\x00\x02\x22\x60\x0d\x00\x21\x08\x00\x08\xb6\x4d\x54\x8c\x3f\x6b\x25\x69\x09\x00\x04\x00\x00\xa8\xc0\x0a\x00\x01\x02\x0f\x00\x08\x81\x0e\x52\x8e\x1c\x5f\xda\x1a\x0d\x00\x21\x08\x00\x08\x5e\xbd\x03\xaa\x5e\xd5\xe2\x94\x09\x00\x04\x00\x01\x51\x80\x0a\x00\x01\x03\x0f\x00\x08\x25\x35\x67\xc3\x09\x21\x8c\x2c\x0b\x00\x14\xa5\xe3\x33\x25\xea\x72\xf8\x50\x1c\x2a\xb6\x65\x45\x6b\xcc\xde\x8b\x4f\x22\x02";
+    authorization_reply(i4);
+    key_request(i5, standard);
+    key_reply(i6);
+}
