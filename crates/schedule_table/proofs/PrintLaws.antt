@@ -2,14 +2,17 @@
 use mathlib.Core.Path.{_≡_, refl, sym, ap, _∙_}
 use mathlib.Core.Bool.{Bool, true, false, cond}
 use mathlib.Core.List.{List, [], _∷_, _++_, append-assoc}
-use Prim.Native.Nat.{ℕ, zero, suc, _+_, _-_, _%_, _≤_, _<_}
+use Prim.Native.Nat.{ℕ, zero, suc, _+_, _-_, _*_, _%_, _≤_, _<_}
+use native.Mathlib.Nat.{mul-le-mul-left, mul-le-mul-right}
 use native.Mathlib.Omega.{arith}
 use lib.Dec.{leb, eqb, ltb}
-use lib.ListN.{length, take, drop}
+use lib.ListN.{length, take, drop, length-append}
 use lib.Seq.{take-append-seam}
 use borrow.Author.Tests.{lt-ltb, le-ltb, eqb-true, eqb-false}
 use Rattle.keys.specs.Octets.{overlay}
 use Rattle.keys.specs.declared.numbers.TekNumber.{TekNumber}
+use Rattle.text.specs.Decimal.{limit}
+use Rattle.text.proofs.DecimalLaws.{decimal-length-high}
 use Rattle.association.specs.Listing.{freshOf}
 use Rattle.association.specs.Made.{Line, Made, madeAt, pushed, keysMadeFrom}
 use Rattle.schedule_table.specs.declared.input.Asked.{Asked}
@@ -173,6 +176,34 @@ all-fills (suc n) room c wide s few = go (eqb (c .left) 0) refl (all-fills n roo
         some : (k : ℕ) → (k ≡ 0 → ⊥) → 1 ≤ k
         some zero no-zero = absurd (no-zero refl)
         some (suc k) no-zero = omega arith
+
+-- ---- how long it is: a row has at most 84 octets, and there is one for each clock call left
+row-length : (a b c d : ℕ) → a < limit → b < limit → c < limit → d < limit → length (rowOctets a b c d) ≤ 84
+unfolding rowOctets
+row-length a b c d ha hb hc hd =
+    simp length-append
+    (omega (arith, decimal-length-high a ha, decimal-length-high b hb, decimal-length-high c hc, decimal-length-high d hd))
+
+row-short : (c : Cursor) → Steady c → 1 ≤ c .left → length (newerRow (nextOf c)) ≤ 84
+row-short c s more =
+    let time = s .in-time in
+    let one-half : 1 * c .half ≤ c .left * c .half = mul-le-mul-right (c .half) more in
+    rw (row-next c s)
+    (row-length (c .generation + 1) ((c .generation + 1) % 16) (c .clock + c .half) (c .clock + c .half + c .half + c .half)
+    (omega (arith, s .counted)) (omega arith) (omega (arith, one-half, time)) (omega (arith, one-half, time, s .half-small)))
+
+rest-short : (n : ℕ) (c : Cursor) → c .left ≡ n → Steady c → length (restOf c) ≤ n * 84
+rest-short zero c e s = omega (arith, ap length (none-left c e))
+rest-short (suc n) c e s =
+    let more : 1 ≤ c .left = omega arith in
+    let after = rest-short n (nextOf c) (omega (arith, next-left c)) (next-steady c s more) in
+    omega (arith, after, row-short c s more, sym (length-append (newerRow (nextOf c)) (restOf (nextOf c))) ∙ ap length (rest-next c s more))
+
+-- all rows that may be left fit a count of octets
+pub rest-most : (c : Cursor) → Steady c → length (restOf c) ≤ 84000000000000
+rest-most c s =
+    let each : c .left * 1 ≤ c .left * c .half = mul-le-mul-left (c .left) (s .half-some) in
+    omega (arith, rest-short (c .left) c refl s, each, s .in-time)
 
 -- The front of a slice, up to the count that is answered, is what was written
 pub front : (lent written : List ℕ) → take (length written) (overlay lent written) ≡ written

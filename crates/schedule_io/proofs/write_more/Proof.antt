@@ -5,10 +5,8 @@ use native.Mathlib.Omega.{arith}
 use lib.Seq.{length-take-le}
 use lib.ListN.{length}
 use borrow.Author.Needs.{needs}
-use Rattle.schedule_table.proofs.PrintLaws.{fill-lowers}
 use Rattle.schedule_table.specs.Print.{fillOf}
 use Rattle.schedule_table.specs.declared.print.Printed.{Printed}
-use Rattle.schedule_table.specs.declared.print.Cursor.{Cursor}
 use Rattle.schedule_io.proofs.write_more.Statement.{statement}
 use Rattle.schedule_io.proofs.write_more.Tie as tie
 
@@ -34,12 +32,12 @@ write-all-requires c κs = search needs
 
 returns : tie.Need-returns
 returns c =
-    let p = c .before .before .before .before .before .before .before .pre in
     let k = c .before .before .before .before .before .before .before .args .c in
     let f = c .before .before .before .before .fill in
-    let long : length (c .before .before .before .before .before .before .buffer .result) ≡ 4096 = sym (c .before .before .before .before .before .before .buffer .ensures) in
-    let same : f .result .cursor ≡ fillOf 4096 k .cursor = ap (λ (q : Printed). q .cursor) (f .ensures .0) ∙ ap (λ (n : ℕ). fillOf n k .cursor) long in
-    (same, (f .ensures .1 .1 .1, omega (arith, ap (λ (q : Cursor). q .left) same, fill-lowers 4096 k (p .0) (omega arith) (p .1))))
+    let long : length (c .before .before .before .before .before .before .buffer .result) ≡ 4096 = sym (c .before .before .before .before .before .before .buffer .ensures) in (
+      ap (λ (q : Printed). q .cursor) (f .ensures .0) ∙ ap (λ (n : ℕ). fillOf n k .cursor) long,
+      ap (λ (q : Printed). q .count) (f .ensures .0) ∙ ap (λ (n : ℕ). length (fillOf n k .written)) long,
+    )
 
 pub write-more-spec : {M : Type 1} → statement M
 write-more-spec =

@@ -30,7 +30,8 @@ write-all-requires c κs = search needs
 returns : tie.Need-returns
 returns c =
     let t = c .before .before .before .before .start in
-    (ap (λ (p : Printed). p .cursor) (t .ensures .0), t .ensures .1 .1 .1)
+    let long = c .before .before .before .before .before .before .buffer .ensures in
+    ((ap (λ (p : Printed). p .cursor) (t .ensures .0), ap (λ (p : Printed). p .count) (t .ensures .0)), omega (arith, t .ensures .1 .1 .0, long))
 
 pub write-start-spec : {M : Type 1} → statement M
 write-start-spec =

@@ -1,0 +1,2 @@
+-- What is handed to the output.
+pub mod Sent
