@@ -13,11 +13,11 @@ use Rattle.keys.specs.declared.refusal.Answer.{Answer}
 use Rattle.keys.specs.declared.refusal.Answer.the-variants.{Done, Refused}
 use Rattle.keys.specs.Octets.{overlay}
 use Rattle.keys.specs.Refusal.{numberOf, answerNumber}
-use Rattle.wire.specs.declared.fields.Receiver.{Receiver}
 use Rattle.wire.specs.declared.fields.Receiver.the-variants.{Modem}
 use Rattle.wire.specs.declared.fields.Reading.{Reading}
 use Rattle.wire.specs.Messages.{messageAnswer}
-use Rattle.wire.specs.Reading.{takenOf, readingFor, readOf}
+use Rattle.wire.specs.Reading.{readOf}
+use Rattle.wire.proofs.MessageAnswers.{read-answer}
 use Rattle.writer.specs.Put.{Put}
 use Rattle.writer.proofs.Stores.{put-whole}
 use Rattle.firmware.specs.Layout.{readingOctets}
@@ -53,15 +53,6 @@ module _ (octets d : List ℕ) where
   call-done Done n e z after h = record { answers = refl; holds = h }
   call-done (Refused r) n e z after h = absurd (refusal-number r (sym e ∙ z))
 
--- the reading's own answer is that of the questions
-reading-answer : (e : Receiver) (s : List ℕ) → readOf e s .answer ≡ messageAnswer e s
-unfolding readOf takenOf
-reading-answer e s = go (messageAnswer e s)
-  where
-    go : (a : Answer) → readingFor a s .answer ≡ a
-    go Done = refl
-    go (Refused r) = refl
-
 module _ (end : ℕ) (s d : List ℕ) where
   pub end-refused : leb end 1 ≡ false → Answers (readCallOf end s (length d)) d 1 d
   unfolding readCallOf readQuestions
@@ -79,7 +70,7 @@ module _ (end : ℕ) (s d : List ℕ) where
 
       module _ (r : Reading) (is : r ≡ readOf (receiverAt end) s) (n : ℕ) (number : n ≡ answerNumber (r .answer)) where
         answered : n ≡ answerNumber (messageAnswer (receiverAt end) s)
-        answered = number ∙ ap (λ (x : Reading). answerNumber (x .answer)) is ∙ ap answerNumber (reading-answer (receiverAt end) s)
+        answered = number ∙ ap (λ (x : Reading). answerNumber (x .answer)) is ∙ ap answerNumber (read-answer (receiverAt end) s)
 
         pub message-refused : (n ≡ 0 → ⊥) → Answers (readCallOf end s (length d)) d n d
         message-refused h =

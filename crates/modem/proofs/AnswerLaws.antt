@@ -4,8 +4,6 @@ use mathlib.Core.Bool.{Bool, true, false, cond, _&&_, and-false}
 use mathlib.Core.List.{List, [], _∷_, _++_}
 use Prim.Native.Nat.{ℕ, _≤_, _<_}
 use native.Mathlib.Omega.{arith}
-use lib.Dec.{leb}
-use lib.ListN.{length}
 use borrow.Author.Tests.{le-leb, lt-leb}
 use Rattle.keys.specs.declared.refusal.Answer.{Answer}
 use Rattle.keys.specs.declared.refusal.Answer.the-variants.{Done, Refused}
@@ -15,10 +13,10 @@ use Rattle.keys.specs.Octets.{overlay}
 use Rattle.keys.specs.Questions.{Question, firstNo}
 use Rattle.wire.specs.declared.fields.Receiver.{Receiver}
 use Rattle.wire.specs.declared.fields.Receiver.the-variants.{Modem as AtModem}
-use Rattle.wire.specs.declared.fields.Fields.{Fields}
 use Rattle.wire.specs.declared.fields.Reading.{Reading}
 use Rattle.wire.specs.Messages.{isWhole, question7, question8, question9, messageQuestions, messageAnswer}
-use Rattle.wire.specs.Reading.{takenOf, readingFor, readOf}
+use Rattle.wire.specs.Reading.{readOf}
+use Rattle.wire.proofs.MessageAnswers.{read-answer}
 use Rattle.modem_steps.specs.declared.state.Modem.{Modem}
 use Rattle.modem_steps.specs.declared.state.Work.{Work}
 use Rattle.modem_steps.specs.declared.state.Called.{Called}
@@ -27,7 +25,7 @@ use Rattle.modem.specs.Limits.{modemFits}
 use Rattle.modem_steps.specs.State.{starting}
 use Rattle.modem_steps.specs.Machine.{plainEvent}
 use Rattle.modem.specs.Messages.{outOctets, OutFits}
-use Rattle.modem.specs.Calls.{Result, resultOf, refusedCall, answeredCall, isDone, doneCall, firstQuestions, clockFits}
+use Rattle.modem.specs.Calls.{resultOf, refusedCall, answeredCall, isDone, doneCall, firstQuestions, clockFits}
 
 -- ---- what is given for an answer
 module _ (m : Modem) (lent : List ℕ) (answer : Answer) (w : Work) where
@@ -80,14 +78,6 @@ pub clock-yes : (b : Bool) → b ≡ true → firstNo (record { refusal = ClockO
 clock-yes b e = simp e
 
 -- ---- a reading
-pub read-answer : (e : Receiver) (s : List ℕ) → readOf e s .answer ≡ messageAnswer e s
-unfolding readOf takenOf
-read-answer e s = go (messageAnswer e s)
-  where
-    go : (a : Answer) → readingFor a s .answer ≡ a
-    go Done = refl
-    go (Refused r) = refl
-
 pub read-fields : (e : Receiver) (s : List ℕ) → messageAnswer e s ≡ Done → readOf e s .fields ≡ fieldsIn s
 unfolding readOf
 read-fields e s d = rw d

@@ -1,4 +1,4 @@
--- Each answer to a message, and exactly what it says of questions 6 to 9.
+-- Each answer to a message, and exactly what it says of questions 6 to 9; a reading has that answer.
 use Prim.Native.Nat.{ℕ, zero, suc, _+_}
 use mathlib.Core.Path.{_≡_, refl, sym, ap, subst}
 use mathlib.Core.Bool.{true, false}
@@ -7,10 +7,12 @@ use mathlib.Core.Logic.{_↔_}
 use native.Mathlib.Omega.{arith}
 use Rattle.keys.specs.declared.refusal.Refusal.{Refusal}
 use Rattle.keys.specs.declared.refusal.Refusal.the-variants.{CutMessage, CodeNotReceived, BadAttribute, WrongAttributes}
+use Rattle.keys.specs.declared.refusal.Answer.{Answer}
 use Rattle.keys.specs.declared.refusal.Answer.the-variants.{Done, Refused}
 use Rattle.keys.specs.Refusal.{numberOf}
 use Rattle.wire.specs.declared.fields.Receiver.{Receiver}
 use Rattle.wire.specs.Messages.{isWhole, question7, question8, question9, messageQuestions, messageAnswer}
+use Rattle.wire.specs.Reading.{takenOf, readingFor, readOf}
 use Rattle.wire.proofs.AnswerLaws.{NoAt, met-done, done-met, no-refused, refused-no}
 
 module _ (e : Receiver) (s : List ℕ) where
@@ -57,3 +59,12 @@ module _ (e : Receiver) (s : List ℕ) where
   unfolding messageAnswer messageQuestions
   answer-done =
       (λ a. let h = done-met (messageQuestions e s) a in (h .0, h .1 .0, h .1 .1 .0, h .1 .1 .1 .0), λ h. met-done (messageQuestions e s) (h .0, (h .1, (h .2, (h .3, tt)))))
+
+  -- the reading's own answer is that of the questions
+  pub read-answer : readOf e s .answer ≡ messageAnswer e s
+  unfolding readOf takenOf
+  read-answer = go (messageAnswer e s)
+    where
+      go : (a : Answer) → readingFor a s .answer ≡ a
+      go Done = refl
+      go (Refused r) = refl
