@@ -36,7 +36,7 @@ use Rattle.modem_steps.specs.Receive.{isKnown, paramsWide, widthsFit, saidKnown
 use Rattle.modem.specs.Limits.{timerFits, authorizationFits, keyZero, pairHeldFits, tekZero, modemFits}
 use Rattle.modem.proofs.AskedLaws.{takeable}
 use Rattle.modem.proofs.LimitsLaws.{by-four, SlotIn, InLimits, limits-of, fits-by}
-use Rattle.modem.proofs.SentLaws.{by-received}
+use Rattle.modem.proofs.ReceiveLaws.{by-received}
 use Rattle.modem.proofs.SentFits.{read-fit, read-listed, read-heard}
 use Rattle.modem.proofs.KeptSteps.{Kept, kept-either, told-kept, plain-told-kept, all-kept, plain-kept, clocked-kept}
 use Rattle.modem.proofs.KeptReply.{replied-kept}

@@ -23,9 +23,9 @@ use Rattle.machines.specs.Transitions.{A, D}
 use Rattle.machines.specs.Tek.{tekStepOf}
 use Rattle.modem_steps.specs.declared.state.Modem.{Modem}
 use Rattle.modem_steps.specs.declared.state.Work.{Work}
-use Rattle.modem_steps.specs.State.{withMachines, pastTek, slotAt, pushed, starting}
+use Rattle.modem_steps.specs.State.{pastTek, slotAt, starting}
 use Rattle.modem_steps.specs.Slots.{tekMoment, firstSlot, slotOfSaid}
-use Rattle.modem_steps.specs.Relist.{descriptorAt, lists, emptied, appended, keptIf, keptOne, keptTo, freshTek, startedIf, startedOne, startedTo, listedAnew, relisted}
+use Rattle.modem_steps.specs.Relist.{descriptorAt, lists, emptied, placed, appended, keptIf, keptOne, keptTo, freshTek, startedIf, startedOne, startedTo, listedAnew, relisted}
 use Rattle.modem_steps.specs.Machine.{authTold, replied}
 use Rattle.modem.specs.Limits.{timerFits, keyZero, pairHeldFits, tekFits, tekZero}
 use Rattle.modem.proofs.LimitsLaws.{Apart, by-four, SlotIn, InLimits, tek-by}
@@ -109,14 +109,6 @@ emptied-filling P w l =
       waits = refl;
       clock = refl;
       saids = λ i h. absurd (omega arith);
-    }
-
--- where a slot is free
-abbrev placed : Work → TekStep → Work
-placed w s =
-    record {
-      modem = withMachines (w .modem) (s .counter) (w .modem .authorization) (w .modem .used + 1) (set (w .modem .teks) (w .modem .used) (s .machine));
-      out = pushed (w .out) (s .sends);
     }
 
 -- a machine whose SAID no slot has takes an event and goes to the next free slot

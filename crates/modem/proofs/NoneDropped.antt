@@ -26,7 +26,7 @@ use Rattle.modem_steps.specs.Relist.{appended}
 use Rattle.modem_steps.specs.Machine.{authMoment, authStepped, authTold, plainEvent}
 use Rattle.modem_steps.specs.Clock.{authTimerEvent, tekTimerEvent, authFired, slotFired, slotsFired, clocked}
 use Rattle.modem.proofs.OutLaws.{auth-informs, pushed-fits}
-use Rattle.modem.proofs.SentLaws.{Sayable, Sends, sends-wider, sends-none, told-sends, plain-sends, all-sends, Listing}
+use Rattle.modem.proofs.SentLaws.{Sayable, Sends, sends-wider, sends-either, sends-none, told-sends, plain-sends, all-sends, Listing}
 
 -- The messages that have gone out, and those of one sending: none or one
 abbrev pub messagesOf : Out → List Request
@@ -100,10 +100,6 @@ either-messages : (b : Bool) (v w : Work) (l : List Request) → messagesOf (v .
 either-messages true v w l e = e
 either-messages false v w l e = sym (append-nil (messagesOf (w .out)))
 
-either-sends : (b : Bool) (v w : Work) (n : ℕ) → Sends v n → Sends w n → Sends (cond b v w) n
-either-sends true v w n p q = p
-either-sends false v w n p q = q
-
 abbrev pub authDueSent : Modem → List Request
 authDueSent m = cond (isDue (m .authorization .timer) (m .clock)) (authSent m (authTimerEvent (m .authorization .state)) (record { 0 = 0 }) 0) []
 
@@ -119,7 +115,7 @@ unfolding slotFired
 slot-fired w i n in-four room f =
     let due = isDue (slotAt (w .modem) i .timer) (w .modem .clock) in
     let event = tekTimerEvent (slotAt (w .modem) i .state) in (
-      either-sends due (told w i event) w (n + 1) (told-sends w i event noParams noParams n in-four room f) (sends-wider w n (n + 1) (omega arith) f),
+      sends-either due (told w i event) w (n + 1) (told-sends w i event noParams noParams n in-four room f) (sends-wider w n (n + 1) (omega arith) f),
       either-messages due (told w i event) w (tekSent (w .modem) i event noParams noParams) (told-messages w i event noParams noParams n room f),
     )
 
@@ -146,6 +142,6 @@ clocked-messages m t s =
     let now : Sayable c = record { own = s .own; slots = s .slots; ak = s .ak } in
     let event = authTimerEvent (m .authorization .state) in
     let due = isDue (m .authorization .timer) t in
-    let auth : Sends (authFired w) 2 = either-sends due (plainEvent w event) w 2 (plain-sends c event now) (sends-wider w 0 2 (omega arith) (sends-none c now)) in
+    let auth : Sends (authFired w) 2 = sends-either due (plainEvent w event) w 2 (plain-sends c event now) (sends-wider w 0 2 (omega arith) (sends-none c now)) in
     let first = either-messages due (plainEvent w event) w (authSent c event (record { 0 = 0 }) 0) (auth-messages w event (record { 0 = 0 }) 0 0 (omega arith) (sends-none c now)) in
     slots-fired 4 (authFired w) 2 (omega arith) (omega arith) auth .1 ∙ ap (λ (l : List Request). l ++ slotsDueSent 4 (authFired w)) first

@@ -1,10 +1,10 @@
 -- Laws of what the modem asks of a message's fields, by its code, and of what a message that is taken does.
-use mathlib.Core.Path.{_≡_, refl, sym, _∙_, ap}
-use mathlib.Core.Bool.{Bool, true, false, _&&_, _||_, not}
+use mathlib.Core.Path.{_≡_, refl, _∙_, ap}
+use mathlib.Core.Bool.{Bool, true, false, _&&_, _||_, not, cond}
 use Prim.Native.Nat.{ℕ, _≤_, _<_}
 use native.Mathlib.Omega.{arith}
 use lib.Dec.{eqb, ltb}
-use borrow.Author.Tests.{ltb-true, le-ltb, lt-ltb, ne-eqb, eq-eqb}
+use borrow.Author.Tests.{ltb-true, le-ltb, lt-ltb, ne-eqb, eq-eqb, eqb-true, eqb-false}
 use Rattle.keys.specs.Suites.{widthOf}
 use Rattle.wire.specs.declared.fields.Fields.{Fields}
 use Rattle.modem_steps.specs.declared.state.Modem.{Modem}
@@ -105,3 +105,30 @@ module _ (m : Modem) (f : Fields) (i : ℕ) (ei : i ≡ slotOfSaid m (f .said)) 
       ap (λ (b : Bool). b && q) ep ∙ ap (λ (b : Bool). paramsWide w (f .older) && b) eq
       ∙ ap (λ (k : ℕ). paramsWide k (f .older) && paramsWide k (f .newer)) ew
       ∙ ap (λ (k : ℕ). paramsWide (widthOf (slotAt m k .suite)) (f .older) && paramsWide (widthOf (slotAt m k .suite)) (f .newer)) ei
+
+-- what holds of each code's work holds of the work of a message that is taken
+pub by-received : (m : Modem) (f : Fields) (P : Work → Type 0)
+    → (f .code ≡ 5 → P (replied m f))
+    → (f .code ≡ 6 → P (rejected m (f .error)))
+    → (f .code ≡ 8 → P (toldReply (starting m) (slotOfSaid m (f .said)) 8 (f .older) (f .newer)))
+    → (f .code ≡ 9 → P (told (starting m) (slotOfSaid m (f .said)) 9))
+    → (f .code ≡ 10 → P (invalidated m (f .identifier)))
+    → ((f .code ≡ 5 → ⊥) → (f .code ≡ 6 → ⊥) → (f .code ≡ 10 → ⊥) → P (told (starting m) (slotOfSaid m (f .said)) 5))
+    → P (received m f)
+unfolding received
+by-received m f P p₅ p₆ p₈ p₉ p₁₀ p₁₁ =
+    go (eqb (f .code) 5) refl (eqb (f .code) 6) refl (eqb (f .code) 8) refl (eqb (f .code) 9) refl (eqb (f .code) 10) refl
+  where
+    i : ℕ
+    i = slotOfSaid m (f .said)
+
+    go : (c₅ : Bool) → eqb (f .code) 5 ≡ c₅ → (c₆ : Bool) → eqb (f .code) 6 ≡ c₆ → (c₈ : Bool) → eqb (f .code) 8 ≡ c₈
+        → (c₉ : Bool) → eqb (f .code) 9 ≡ c₉ → (c₁₀ : Bool) → eqb (f .code) 10 ≡ c₁₀
+        → P (cond c₅ (replied m f) (cond c₆ (rejected m (f .error)) (cond c₈ (toldReply (starting m) i 8 (f .older) (f .newer))
+        (cond c₉ (told (starting m) i 9) (cond c₁₀ (invalidated m (f .identifier)) (told (starting m) i 5))))))
+    go true e₅ c₆ e₆ c₈ e₈ c₉ e₉ c₁₀ e₁₀ = p₅ (eqb-true (f .code) 5 e₅)
+    go false e₅ true e₆ c₈ e₈ c₉ e₉ c₁₀ e₁₀ = p₆ (eqb-true (f .code) 6 e₆)
+    go false e₅ false e₆ true e₈ c₉ e₉ c₁₀ e₁₀ = p₈ (eqb-true (f .code) 8 e₈)
+    go false e₅ false e₆ false e₈ true e₉ c₁₀ e₁₀ = p₉ (eqb-true (f .code) 9 e₉)
+    go false e₅ false e₆ false e₈ false e₉ true e₁₀ = p₁₀ (eqb-true (f .code) 10 e₁₀)
+    go false e₅ false e₆ false e₈ false e₉ false e₁₀ = p₁₁ (eqb-false (f .code) 5 e₅) (eqb-false (f .code) 6 e₆) (eqb-false (f .code) 10 e₁₀)

@@ -23,13 +23,14 @@ use Rattle.machines.specs.Tek.{tekStepOf}
 use Rattle.machines.specs.Authorization.{authStepOf}
 use Rattle.modem_steps.specs.declared.state.Modem.{Modem}
 use Rattle.modem_steps.specs.declared.state.Work.{Work}
-use Rattle.modem_steps.specs.State.{withMachines, withClock, pastTek, noTek, slotAt, pushed, starting}
+use Rattle.modem_steps.specs.State.{withClock, pastTek, noTek, slotAt, pushed, starting}
 use Rattle.modem_steps.specs.Slots.{tekMoment, steppedAt, toldReply, told, toldAll, slotOfSaid, slotAsking}
-use Rattle.modem_steps.specs.Relist.{descriptorAt, lists, emptied, appended, keptIf, keptOne, keptTo, freshTek, startedIf, startedOne, startedTo, listedAnew, relisted}
+use Rattle.modem_steps.specs.Relist.{descriptorAt, lists, emptied, placed, appended, keptIf, keptOne, keptTo, freshTek, startedIf, startedOne, startedTo, listedAnew, relisted}
 use Rattle.modem_steps.specs.Machine.{authMoment, authStepped, authTold, plainEvent, replied, rejectEvent, rejected, pendedIf, invalidated}
 use Rattle.modem_steps.specs.Clock.{authTimerEvent, tekTimerEvent, authFired, slotFired, slotsFired, clocked}
 use Rattle.modem_steps.specs.Receive.{received}
 use Rattle.modem.specs.Messages.{OutFits}
+use Rattle.modem.proofs.ReceiveLaws.{by-received}
 use Rattle.modem.proofs.OutLaws.{tek-sends, tek-said, auth-informs, auth-requests, auth-ak, out-none, out-wider, pushed-fits}
 
 -- ---- what messages carry is in range
@@ -46,7 +47,7 @@ pub record Sends (w : Work) (n : ℕ) : Type 0 where
 pub sends-wider : (w : Work) (n k : ℕ) → n ≤ k → Sends w n → Sends w k
 sends-wider w n k h s = record { modem = s .modem; out = out-wider (w .out) n k h (s .out) }
 
-sends-either : (b : Bool) (v w : Work) (n : ℕ) → Sends v n → Sends w n → Sends (cond b v w) n
+pub sends-either : (b : Bool) (v w : Work) (n : ℕ) → Sends v n → Sends w n → Sends (cond b v w) n
 sends-either true v w n p q = p
 sends-either false v w n p q = q
 
@@ -153,14 +154,6 @@ emptied-listing w s =
       used = omega arith;
     }
 
--- where a slot is free
-abbrev placed : Work → TekStep → Work
-placed w s =
-    record {
-      modem = withMachines (w .modem) (s .counter) (w .modem .authorization) (w .modem .used + 1) (set (w .modem .teks) (w .modem .used) (s .machine));
-      out = pushed (w .out) (s .sends);
-    }
-
 appended-listing : (w : Work) (t : Tek) (event : ℕ) → t .said ≤ 16383 → Listing w → Listing (appended w (tekStepOf t event (tekMoment (w .modem)) noParams noParams))
 unfolding appended
 appended-listing w t event small l = go (leb 4 (w .modem .used)) refl
@@ -261,33 +254,6 @@ invalidated-sends m identifier s =
     go true true e two = sends-wider (told w i 3) 3 6 (omega arith) (told-sends w i 3 noParams noParams 2 (ltb-true i 4 e) (omega arith) two)
     go true false e two = sends-wider w 2 6 (omega arith) two
     go false c e two = sends-wider w 2 6 (omega arith) two
-
--- what holds of each code's work holds of the work of a message that is taken
-pub by-received : (m : Modem) (f : Fields) (P : Work → Type 0)
-    → (f .code ≡ 5 → P (replied m f))
-    → (f .code ≡ 6 → P (rejected m (f .error)))
-    → (f .code ≡ 8 → P (toldReply (starting m) (slotOfSaid m (f .said)) 8 (f .older) (f .newer)))
-    → (f .code ≡ 9 → P (told (starting m) (slotOfSaid m (f .said)) 9))
-    → (f .code ≡ 10 → P (invalidated m (f .identifier)))
-    → ((f .code ≡ 5 → ⊥) → (f .code ≡ 6 → ⊥) → (f .code ≡ 10 → ⊥) → P (told (starting m) (slotOfSaid m (f .said)) 5))
-    → P (received m f)
-unfolding received
-by-received m f P p₅ p₆ p₈ p₉ p₁₀ p₁₁ =
-    go (eqb (f .code) 5) refl (eqb (f .code) 6) refl (eqb (f .code) 8) refl (eqb (f .code) 9) refl (eqb (f .code) 10) refl
-  where
-    i : ℕ
-    i = slotOfSaid m (f .said)
-
-    go : (c₅ : Bool) → eqb (f .code) 5 ≡ c₅ → (c₆ : Bool) → eqb (f .code) 6 ≡ c₆ → (c₈ : Bool) → eqb (f .code) 8 ≡ c₈
-        → (c₉ : Bool) → eqb (f .code) 9 ≡ c₉ → (c₁₀ : Bool) → eqb (f .code) 10 ≡ c₁₀
-        → P (cond c₅ (replied m f) (cond c₆ (rejected m (f .error)) (cond c₈ (toldReply (starting m) i 8 (f .older) (f .newer))
-        (cond c₉ (told (starting m) i 9) (cond c₁₀ (invalidated m (f .identifier)) (told (starting m) i 5))))))
-    go true e₅ c₆ e₆ c₈ e₈ c₉ e₉ c₁₀ e₁₀ = p₅ (eqb-true (f .code) 5 e₅)
-    go false e₅ true e₆ c₈ e₈ c₉ e₉ c₁₀ e₁₀ = p₆ (eqb-true (f .code) 6 e₆)
-    go false e₅ false e₆ true e₈ c₉ e₉ c₁₀ e₁₀ = p₈ (eqb-true (f .code) 8 e₈)
-    go false e₅ false e₆ false e₈ true e₉ c₁₀ e₁₀ = p₉ (eqb-true (f .code) 9 e₉)
-    go false e₅ false e₆ false e₈ false e₉ true e₁₀ = p₁₀ (eqb-true (f .code) 10 e₁₀)
-    go false e₅ false e₆ false e₈ false e₉ false e₁₀ = p₁₁ (eqb-false (f .code) 5 e₅) (eqb-false (f .code) 6 e₆) (eqb-false (f .code) 10 e₁₀)
 
 pub received-sends : (m : Modem) (f : Fields) → Sayable m → Heard f
     → ((f .code ≡ 5 → ⊥) → (f .code ≡ 6 → ⊥) → (f .code ≡ 10 → ⊥) → slotOfSaid m (f .said) < 4)

@@ -31,14 +31,16 @@ lists f said suite = hasAt f 0 said suite || hasAt f 1 said suite || hasAt f 2 s
 unfoldable pub emptied : Work → Work
 emptied w = record { modem = withMachines (w .modem) (w .modem .counter) (w .modem .authorization) 0 (replicate 4 noTek); out = w .out }
 
--- A machine that has taken a step goes to the next free slot
-unfoldable pub appended : Work → TekStep → Work
-appended w s =
-    cond (leb 4 (w .modem .used)) w
-    (record {
+-- A machine that has taken a step goes to the next slot, where one is free
+abbrev pub placed : Work → TekStep → Work
+placed w s =
+    record {
       modem = withMachines (w .modem) (s .counter) (w .modem .authorization) (w .modem .used + 1) (set (w .modem .teks) (w .modem .used) (s .machine));
       out = pushed (w .out) (s .sends);
-    })
+    }
+
+unfoldable pub appended : Work → TekStep → Work
+appended w s = cond (leb 4 (w .modem .used)) w (placed w s)
 
 -- A machine goes on where its SAID is listed with its suite and it is not in A: it is told Complete
 unfoldable pub keptIf : Bool → Work → Tek → Work
