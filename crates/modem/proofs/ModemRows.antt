@@ -1,4 +1,4 @@
--- Document 01's edges at the modem, answered by its definitions.
+-- Resends by timeout at both machines, and a Key Reply that no machine waits for, through the modem's call.
 use mathlib.Core.Path.{_≡_, refl, sym, ap, _∙_}
 use mathlib.Core.Bool.{Bool, true, false, _&&_, _||_, not, cond}
 use lib.Dec.{eqb}
@@ -24,9 +24,8 @@ use Rattle.machines.specs.declared.tek.Request.{Request}
 use Rattle.machines.specs.declared.tek.Tek.{Tek}
 use Rattle.machines.specs.declared.tek.TekMoment.{TekMoment}
 use Rattle.machines.specs.declared.tek.TekStep.{TekStep}
-use Rattle.machines.specs.Identifier.{nextIdentifier}
-use Rattle.machines.specs.Transitions.{B, C, D, E, F, blank, nextIn, authorizationTransitions, tekTransitions, authorizationNext, tekNext}
-use Rattle.machines.specs.Tek.{noPair, nothing, keyRequest, counterAfter, identifierAfter, pairAfter, tekSends, tekMoved, tekStays, tekStepOf}
+use Rattle.machines.specs.Transitions.{B, D, E, blank, nextIn, authorizationTransitions, tekTransitions, authorizationNext, tekNext}
+use Rattle.machines.specs.Tek.{nothing, keyRequest, counterAfter, identifierAfter, tekSends, tekMoved, tekStays, tekStepOf}
 use Rattle.machines.specs.Authorization.{authIdentifier, authCounter, requestsOf, authMoved, authStays, authStepOf}
 use Rattle.modem_steps.specs.declared.state.Modem.{Modem}
 use Rattle.modem_steps.specs.declared.state.Work.{Work}
@@ -38,40 +37,8 @@ use Rattle.modem.specs.Calls.{resultOf, firstQuestions, receiveOf}
 use Rattle.modem.proofs.OutLaws.{authRequest}
 use Rattle.modem.proofs.CallLaws.{Unchanged, receive-refused}
 
--- ---- the matrices
-
--- Authorized + Invalid: Reauth Wait
-pub invalid-in-authorized : authorizationNext 7 C ≡ D
-unfolding nextIn authorizationTransitions
-invalid-in-authorized = refl
-
--- Operational + Key Reply: a blank
-pub reply-in-operational : tekNext 8 D ≡ blank
-unfolding nextIn tekTransitions
-reply-in-operational = refl
-
--- Rekey Reauth Wait + TEK Invalid: Op Reauth Wait
-pub invalid-in-rekey-reauth : tekNext 5 F ≡ C
-unfolding nextIn tekTransitions
-invalid-in-rekey-reauth = refl
-
--- Identifier 255, then 0
-pub identifier-wraps : nextIdentifier 255 ≡ 0
-identifier-wraps = refl
-
 -- ---- TEK machine
 module _ (t : Tek) (x : TekMoment) (older newer : Params) where
-  -- a blank changes and sends nothing
-  pub reply-stays : t .state ≡ D → tekStepOf t 8 x older newer ≡ tekStays t x
-  unfolding tekStepOf nextIn tekTransitions
-  reply-stays s = simp s
-
-  -- TEK Invalid in F: to C, the keys gone, nothing sent
-  pub invalid-drops : t .state ≡ F
-      → (tekStepOf t 5 x older newer .machine .state ≡ C) × (tekStepOf t 5 x older newer .machine .pair ≡ noPair) × (tekStepOf t 5 x older newer .sends ≡ nothing)
-  unfolding tekStepOf nextIn tekTransitions tekMoved pairAfter tekSends
-  invalid-drops s = (simp s, simp s, simp s)
-
   -- a timeout in B or E sends the waiting request once more, with its Identifier, and leaves the counter
   abbrev Resent : TekStep → Type 0
   Resent r = (r .sends ≡ keyRequest (t .identifier) (x .ak) (t .said)) × (r .machine .identifier ≡ t .identifier) × (r .counter ≡ x .counter)
