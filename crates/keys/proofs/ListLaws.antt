@@ -1,10 +1,12 @@
--- What holds of each member of a list, and the fact that a test's value tells: the forms that proofs by clauses take.
+-- What holds of each member of a list, a list of four by its members, and the fact that a test's value tells: the forms that proofs by clauses take.
 use mathlib.Core.Path.{_≡_, refl, sym, subst}
 use mathlib.Core.Bool.{Bool, true, false}
 use mathlib.Core.Logic.{_⊎_, inl, inr}
 use mathlib.Core.List.{List, [], _∷_, _++_, List·Memᴰ, List·Memᴰ·head, List·Memᴰ·tail}
 use Prim.Native.Nat.{ℕ, _≤_, _<_}
+use native.Mathlib.Omega.{arith}
 use lib.Dec.{ltb}
+use lib.ListN.{length}
 use borrow.Author.Tests.{ltb-true, ltb-false}
 
 module _ {A : Type 0} where
@@ -40,6 +42,15 @@ module _ {A : Type 0} where
       of : List·Memᴰ x l ⊎ (x ≡ a) → P x
       of (inl k) = ps x k
       of (inr e) = subst P (sym e) p
+
+  -- a list of four
+  pub of-four : (P : List A → Type 0) → ((a b c d : A) → P (a ∷ b ∷ c ∷ d ∷ [])) → (l : List A) → length l ≡ 4 → P l
+  of-four P p [] h = absurd (omega arith)
+  of-four P p (a ∷ []) h = absurd (omega arith)
+  of-four P p (a ∷ b ∷ []) h = absurd (omega arith)
+  of-four P p (a ∷ b ∷ c ∷ []) h = absurd (omega arith)
+  of-four P p (a ∷ b ∷ c ∷ d ∷ []) h = p a b c d
+  of-four P p (a ∷ b ∷ c ∷ d ∷ e ∷ l) h = absurd (omega arith)
 
 -- The fact that `ltb a b` tells
 abbrev pub IfLt : ℕ → ℕ → Bool → Type 0

@@ -1,6 +1,7 @@
 pub mod Numbers
 pub mod Suites
 pub mod Octets
+pub mod Apart
 pub mod Traffic
 pub mod Settings
 pub mod Refusal

@@ -1,4 +1,3 @@
-pub mod Apart
 pub mod Limits
 pub mod Messages
 pub mod Calls

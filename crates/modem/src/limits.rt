@@ -4,7 +4,7 @@ ghost use Prim.Native.Nat.{_<_};
 ghost use lib.ListN.{take};
 ghost use Rattle.wire.specs.Messages.{different};
 ghost use Rattle.modem.specs.Limits.{timerFits, authorizationFits, keyZero, pairHeldFits, longestWait, tekFits, tekZero, slotFits, saidsOfTeks, modemFits};
-ghost use Rattle.modem.specs.Apart.{apartAt};
+use keys::apart::all_apart;
 use keys::octets::zero_past;
 use keys::settings::Waits;
 use keys::settings::settings_fit;
@@ -107,13 +107,6 @@ fn slot_fits(m: Modem, i: usize) -> bool
     tek_zero(t)
 }
 
-// Whether two SAIDs differ, where the one at place `i` is in use.
-fn is_apart(used: usize, i: usize, a: u16, b: u16) -> bool
-    ensures { λ r. ⌜ r ≡ apartAt used i a b ⌝ }
-{
-    (used <= i) | (a != b)
-}
-
 fn saids_differ(n: usize, teks: [Tek; 4]) -> bool
     ensures { λ r. ⌜ r ≡ different (saidsOfTeks (take n teks)) ⌝ }
 {
@@ -121,12 +114,7 @@ fn saids_differ(n: usize, teks: [Tek; 4]) -> bool
     let b = teks[1];
     let c = teks[2];
     let d = teks[3];
-    is_apart(n, 1, a.said, b.said)
-        & is_apart(n, 2, a.said, c.said)
-        & is_apart(n, 3, a.said, d.said)
-        & is_apart(n, 2, b.said, c.said)
-        & is_apart(n, 3, b.said, d.said)
-        & is_apart(n, 3, c.said, d.said)
+    all_apart(n, a.said, b.said, c.said, d.said)
 }
 
 pub fn modem_fits(m: Modem) -> bool

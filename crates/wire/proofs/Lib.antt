@@ -3,6 +3,7 @@ pub mod HoldsLaws
 pub mod CodesLaws
 pub mod Vectors
 pub mod AnswerLaws
+pub mod ApartLaws
 pub mod MessageAnswers
 pub mod PartsWritten
 pub mod DescriptorsWritten

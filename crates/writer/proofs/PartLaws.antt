@@ -8,7 +8,7 @@ use lib.Dec.{ltb}
 use lib.ListN.{length, getD, take, length-append, length-take}
 use lib.Seq.{take-nil, take-all}
 use borrow.Author.Tests.{lt-ltb}
-use Rattle.keys.proofs.ListLaws.{IfLt, if-lt}
+use Rattle.keys.proofs.ListLaws.{of-four, IfLt, if-lt}
 use Rattle.wire.specs.declared.fields.Params.{Params}
 use Rattle.wire.specs.declared.fields.Descriptor.{Descriptor}
 use Rattle.wire.specs.Attributes.{Item, attr, octets, attrOctets, two, four}
@@ -60,14 +60,6 @@ pub length-first : (n : ℕ) (ds : List Descriptor) → length ds ≡ 4 → leng
 length-first n ds s = simp (length-descriptors, length-take, s)
 
 -- ---- four descriptors
-pub of-four : (P : List Descriptor → Type 0) → ((a b c d : Descriptor) → P (a ∷ b ∷ c ∷ d ∷ [])) → (ds : List Descriptor) → length ds ≡ 4 → P ds
-of-four P p [] h = absurd (omega arith)
-of-four P p (a ∷ []) h = absurd (omega arith)
-of-four P p (a ∷ b ∷ []) h = absurd (omega arith)
-of-four P p (a ∷ b ∷ c ∷ []) h = absurd (omega arith)
-of-four P p (a ∷ b ∷ c ∷ d ∷ []) h = p a b c d
-of-four P p (a ∷ b ∷ c ∷ d ∷ e ∷ ds) h = absurd (omega arith)
-
 abbrev pub ifAt : ℕ → ℕ → List Descriptor → List Item
 ifAt n i ds = descriptorIf (ltb i n) (getD ds i noDescriptor)
 

@@ -7,8 +7,8 @@ ghost use lib.Dec.{leb, eqb};
 ghost use Rattle.wire.specs.Ranges.{needs};
 ghost use Rattle.wire.specs.Messages.{different};
 ghost use Rattle.wire.specs.Limits.{carriedOr, keyOctetsFit, keyOctetsZero, paramsFit, paramsZero, pairFit, descriptorFit, descriptorZero, placeFit, saidsOf, descriptorsFit, descriptorsZero, headFits, fieldsFit, authKeyFits};
-ghost use Rattle.writer.specs.Apart.{apartAt};
 use crate::needed::is_needed;
+use keys::apart::all_apart;
 use keys::numbers::AkNumber;
 use keys::numbers::ak_in_range;
 use keys::numbers::same_tek;
@@ -97,13 +97,6 @@ fn place_fit(n: usize, i: usize, ds: [Descriptor; 4]) -> bool
     carried_or(i < n, descriptor_fit(d), descriptor_zero(d))
 }
 
-// Whether two SAIDs differ, where the one at place `i` is among the first `n`.
-fn apart(n: usize, i: usize, a: u16, b: u16) -> bool
-    ensures { λ r. ⌜ r ≡ apartAt n i a b ⌝ }
-{
-    (n <= i) | !(a == b)
-}
-
 // Whether the SAIDs of the first `n` descriptors are different.
 pub fn saids_differ(n: usize, ds: [Descriptor; 4]) -> bool
     ensures { λ r. ⌜ r ≡ different (saidsOf (take n ds)) ⌝ }
@@ -112,12 +105,7 @@ pub fn saids_differ(n: usize, ds: [Descriptor; 4]) -> bool
     let second = ds[1];
     let third = ds[2];
     let fourth = ds[3];
-    apart(n, 1, first.said, second.said)
-        & apart(n, 2, first.said, third.said)
-        & apart(n, 3, first.said, fourth.said)
-        & apart(n, 2, second.said, third.said)
-        & apart(n, 3, second.said, fourth.said)
-        & apart(n, 3, third.said, fourth.said)
+    all_apart(n, first.said, second.said, third.said, fourth.said)
 }
 
 pub fn descriptors_fit(n: usize, ds: [Descriptor; 4]) -> bool

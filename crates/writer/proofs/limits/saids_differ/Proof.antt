@@ -1,6 +1,5 @@
 -- `writer::limits::saids_differ` meets its contract.
-use mathlib.Core.Path.{_≡_}
-use lib.ListN.{length}
+use native.Mathlib.Omega.{arith}
 use borrow.Author.Needs.{needs}
 use Rattle.writer.proofs.ApartLaws.{differ-pairs}
 use Rattle.writer.proofs.limits.saids_differ.Statement.{statement}
@@ -18,27 +17,13 @@ array-copy-out-third c = search needs
 array-copy-out-fourth : tie.Need-array-copy-out-fourth
 array-copy-out-fourth c = search needs
 
-apart-requires : tie.Need-apart-requires
-apart-requires c κs = search needs
-
-apart-requires-2 : tie.Need-apart-requires-2
-apart-requires-2 c κs = search needs
-
-apart-requires-3 : tie.Need-apart-requires-3
-apart-requires-3 c κs = search needs
-
-apart-requires-4 : tie.Need-apart-requires-4
-apart-requires-4 c κs = search needs
-
-apart-requires-5 : tie.Need-apart-requires-5
-apart-requires-5 c κs = search needs
-
-apart-requires-6 : tie.Need-apart-requires-6
-apart-requires-6 c κs = search needs
+all-apart-requires : tie.Need-all-apart-requires
+all-apart-requires c κs = search needs
 
 returns : tie.Need-returns
-returns c = let s : length (c .before .before .before .before .before .before .before .before .before .before .args .t2) ≡ 4 = search needs in
-    simp (c .before .before .before .before .before .apart .ensures, c .before .before .before .before .apart2 .ensures, c .before .before .before .apart3 .ensures, c .before .before .apart4 .ensures, c .before .apart5 .ensures, c .apart6 .ensures) (differ-pairs (c .before .before .before .before .before .before .before .before .before .before .args .n) (c .before .before .before .before .before .before .before .before .before .before .args .t2) s)
+returns c =
+    let a = c .before .before .before .before .before .args in
+    rw (c .all-apart .ensures) (differ-pairs (a .n) (a .t2) (omega arith))
 
 pub saids-differ-spec : {M : Type 1} → statement M
 saids-differ-spec =
@@ -48,10 +33,5 @@ saids-differ-spec =
     array-copy-out-second
     array-copy-out-third
     array-copy-out-fourth
-    apart-requires
-    apart-requires-2
-    apart-requires-3
-    apart-requires-4
-    apart-requires-5
-    apart-requires-6
+    all-apart-requires
     returns)
