@@ -2,7 +2,7 @@
 use Prim.Native.Nat.{ℕ, suc, _+_, _-_, _≤_, _<_}
 use mathlib.Core.Path.{_≡_, refl, sym, ap, _∙_}
 use mathlib.Core.List.{List, [], _∷_}
-use mathlib.Core.Bool.{Bool, true, false, _&&_, _||_, not, cond}
+use mathlib.Core.Bool.{Bool, true, false, _&&_, _||_, not, cond, and-true, and-false, and-assoc}
 use lib.ListN.{length, getD, take, drop, set, length-set}
 use lib.Seq.{take-nil}
 use lib.Dec.{leb, ltb, eqb}
@@ -14,7 +14,7 @@ use Rattle.reader.specs.declared.pass.Slot.{Slot}
 use Rattle.reader.specs.declared.pass.Body.{Body}
 use Rattle.reader.specs.Slots.{typeSlot, bodySlot, noSlot, notedOf}
 use Rattle.reader.specs.Pass.{notedAt, bodyRecord, bodyTurn, bodyFrom, noBody, bodyPass, insidePass}
-use Rattle.reader.proofs.BoolLaws.{and-true, and-false, and-assoc, and-swap}
+use Rattle.reader.proofs.BoolLaws.{and-swap}
 use Rattle.reader.proofs.ItemLaws.{ended-items}
 use Rattle.reader.proofs.SlotLaws.{slotOf, slotFrom, noted-at, empty, slot-is, slot-never}
 use Rattle.reader.proofs.HitLaws.{true-not-false, body-hit, body-miss, body-need}

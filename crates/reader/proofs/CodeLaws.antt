@@ -6,6 +6,7 @@ use mathlib.Core.Logic.{_⊎_, inl, inr}
 use lib.Dec.{leb, eqb}
 use native.Mathlib.Omega.{arith}
 use borrow.Author.Tests.{eqb-true, eqb-false, leb-true}
+use Rattle.keys.proofs.TestLaws.{both, either}
 use Rattle.wire.specs.declared.fields.Receiver.{Receiver}
 use Rattle.wire.specs.declared.fields.Receiver.the-variants.{HeadEnd, Modem}
 use Rattle.wire.specs.Ranges.{neededOf, needs, among}
@@ -27,14 +28,6 @@ pub data Code : ℕ → Type 0 where
 -- ---- a code that an end receives is one of the nine
 as-code : {c : ℕ} (n : ℕ) → Code n → eqb c n ≡ true → Code c
 as-code {c} n k e = rw (eqb-true c n e) k
-
-either : (a b : Bool) → a || b ≡ true → (a ≡ true) ⊎ (b ≡ true)
-either true b e = inl refl
-either false b e = inr e
-
-pub both : (a b : Bool) → a && b ≡ true → (a ≡ true) × (b ≡ true)
-both true b e = (refl, e)
-both false b e = absurd (true-not-false (sym e))
 
 between : (c : ℕ) → (leb 5 c && leb c 6) || (leb 8 c && leb c 11) ≡ true → Code c
 between c e = go (eqb c 5) refl (eqb c 6) refl (eqb c 8) refl (eqb c 9) refl (eqb c 10) refl (eqb c 11) refl

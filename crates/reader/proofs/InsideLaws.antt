@@ -2,7 +2,7 @@
 use Prim.Native.Nat.{ℕ, _+_, _≤_, _<_}
 use mathlib.Core.Path.{_≡_, refl, sym, ap, _∙_}
 use mathlib.Core.List.{List, [], _∷_}
-use mathlib.Core.Bool.{Bool, true, false, _&&_, _||_, not, cond}
+use mathlib.Core.Bool.{Bool, true, false, _&&_, _||_, not, cond, and-true, and-false, and-assoc}
 use lib.ListN.{length, getD, take, drop, replicate, length-set}
 use lib.Dec.{leb, eqb}
 use native.Mathlib.Omega.{arith}
@@ -18,7 +18,7 @@ use Rattle.reader.specs.declared.compound.DescriptorRead.{DescriptorRead
 use Rattle.reader.specs.Slots.{insideSlot, noSlot, notedOf}
 use Rattle.reader.specs.Pass.{insideRecord, notedAt, insideTurn, insideFrom, insidePass}
 use Rattle.reader.specs.Compounds.{paramsRead, descriptorRead}
-use Rattle.reader.proofs.BoolLaws.{and-true, and-false, and-assoc, and-three, and-four}
+use Rattle.reader.proofs.BoolLaws.{and-three, and-four}
 use Rattle.reader.proofs.ItemLaws.{ended-items}
 use Rattle.reader.proofs.SlotLaws.{slotOf, slotFrom, noted-at, empty, slot-is, placed, once-is}
 use Rattle.reader.proofs.HitLaws.{inside-8, inside-9, inside-10, inside-15, inside-12, inside-24, inside-20, inside-need-13, inside-need-23}

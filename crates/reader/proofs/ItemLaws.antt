@@ -8,45 +8,12 @@ use lib.Seq.{drop-cons, drop-drop, length-take-le}
 use lib.Dec.{leb, ltb}
 use native.Mathlib.Omega.{arith}
 use native.Mathlib.Numerals.{towards-suc}
-use borrow.Author.Tests.{le-leb, lt-leb, leb-true, leb-false, ltb-true, ltb-false}
+use borrow.Author.Tests.{leb-true, leb-false, ltb-true, ltb-false}
 use Rattle.wire.specs.Attributes.{Item, attr, cut, item, itemsWith, items}
+use Rattle.wire.proofs.AttributesLaws.{items-attr, items-cut, items-few}
 use Rattle.reader.specs.Next.{lengthAt, pickNext, nextAt}
 use Rattle.reader.specs.declared.attribute.Next.{Next}
 use Rattle.reader.specs.declared.attribute.Next.the-variants.{Attr, Cut, End}
-
--- fuel beyond the length changes nothing
-pub fuel : (f g : ℕ) (s : List ℕ) → length s ≤ f → length s ≤ g → itemsWith f s ≡ itemsWith g s
-unfolding itemsWith
-fuel zero zero s hf hg = refl
-fuel zero (suc g) [] hf hg = refl
-fuel zero (suc g) (k ∷ s) hf hg = absurd (omega arith)
-fuel (suc f) zero [] hf hg = refl
-fuel (suc f) zero (k ∷ s) hf hg = absurd (omega arith)
-fuel (suc f) (suc g) [] hf hg = refl
-fuel (suc f) (suc g) (k ∷ []) hf hg = refl
-fuel (suc f) (suc g) (k ∷ a ∷ []) hf hg = refl
-fuel (suc f) (suc g) (k ∷ a ∷ b ∷ r) hf hg =
-    ap (item (leb (a * 256 + b) (length r)) k (a * 256 + b) r)
-    (fuel f g (drop (a * 256 + b) r) (simp length-drop (omega arith)) (simp length-drop (omega arith)))
-
-pub items-attr : (k a b : ℕ) (r : List ℕ) → a * 256 + b ≤ length r
-    → items (k ∷ a ∷ b ∷ r) ≡ attr k (take (a * 256 + b) r) ∷ items (drop (a * 256 + b) r)
-unfolding items itemsWith
-items-attr k a b r h =
-    simp (le-leb _ _ h)
-    (ap (λ (l : List Item). attr k (take (a * 256 + b) r) ∷ l)
-    (fuel (suc (suc (length r))) (length (drop (a * 256 + b) r)) (drop (a * 256 + b) r) (simp length-drop (omega arith)) (omega arith)))
-
-pub items-cut : (k a b : ℕ) (r : List ℕ) → length r < a * 256 + b → items (k ∷ a ∷ b ∷ r) ≡ cut ∷ []
-unfolding items itemsWith
-items-cut k a b r h = simp (lt-leb _ _ h)
-
-pub items-few : (s : List ℕ) → 0 < length s → length s < 3 → items s ≡ cut ∷ []
-unfolding items itemsWith
-items-few [] h l = absurd (omega arith)
-items-few (k ∷ []) h l = refl
-items-few (k ∷ a ∷ []) h l = refl
-items-few (k ∷ a ∷ b ∷ r) h l = absurd (omega arith)
 
 -- the three octets of an attribute's head, as the code reads them
 pub head : (s : List ℕ) (at : ℕ) → at + 3 ≤ length s → drop at s ≡ getD s at 0 ∷ getD s (at + 1) 0 ∷ getD s (at + 2) 0 ∷ drop (at + 3) s

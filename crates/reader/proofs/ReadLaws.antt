@@ -10,6 +10,7 @@ use native.Mathlib.Omega.{arith}
 use borrow.Author.Tests.{leb-true}
 use Rattle.keys.specs.declared.refusal.Refusal.the-variants.{CutMessage, CodeNotReceived, BadAttribute, WrongAttributes}
 use Rattle.keys.specs.declared.refusal.Answer.the-variants.{Done}
+use Rattle.keys.proofs.TestLaws.{both}
 use Rattle.wire.specs.declared.fields.Receiver.{Receiver}
 use Rattle.wire.specs.declared.fields.Reading.{Reading}
 use Rattle.wire.specs.Attributes.{items}
@@ -22,7 +23,7 @@ use Rattle.reader.specs.declared.compound.Compounds.{Compounds}
 use Rattle.reader.specs.Pass.{bodyPass}
 use Rattle.reader.specs.Compounds.{compoundsOf}
 use Rattle.reader.specs.Taken.{toldIn, takenFrom, refusedReading}
-use Rattle.reader.proofs.CodeLaws.{Code, received-code, both}
+use Rattle.reader.proofs.CodeLaws.{Code, received-code}
 use Rattle.reader.proofs.SoundLaws.{compoundsIn, sound-code}
 use Rattle.reader.proofs.ToldLaws.{whole-code}
 use Rattle.reader.proofs.TakenLaws.{taken-code}

@@ -2,7 +2,7 @@
 use Prim.Native.Nat.{ℕ, zero, suc, _+_, _≤_, _<_}
 use mathlib.Core.Path.{_≡_, refl, sym}
 use mathlib.Core.List.{List, [], _∷_}
-use mathlib.Core.Bool.{Bool, true, false, _&&_, cond}
+use mathlib.Core.Bool.{Bool, true, false, _&&_, cond, and-false}
 use lib.ListN.{length, getD, take, drop, replicate}
 use lib.Seq.{getD-set-same, getD-set-other}
 use lib.Dec.{leb, eqb}
@@ -15,7 +15,6 @@ use Rattle.reader.specs.declared.pass.Slot.{Slot}
 use Rattle.reader.specs.Next.{nextAt}
 use Rattle.reader.specs.Slots.{noSlot, notedOf}
 use Rattle.reader.specs.Pass.{notedAt}
-use Rattle.reader.proofs.BoolLaws.{and-false}
 use Rattle.reader.proofs.ItemLaws.{Ended, At, nextAt-at, items-past, found-length}
 
 -- up to 2

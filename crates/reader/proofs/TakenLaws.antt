@@ -8,6 +8,7 @@ use lib.Dec.{leb, eqb}
 use native.Mathlib.Omega.{arith}
 use Rattle.keys.specs.declared.refusal.Answer.the-variants.{Done}
 use Rattle.keys.specs.Octets.{padded}
+use Rattle.keys.proofs.TestLaws.{both}
 use Rattle.wire.specs.declared.fields.Place.{Place}
 use Rattle.wire.specs.declared.fields.Reading.{Reading}
 use Rattle.wire.specs.Attributes.{Item, items, itemsWith, values, valueAt, countOf, startFrom, be16, be32}
@@ -23,7 +24,7 @@ use Rattle.reader.proofs.SlotLaws.{slotOf, placed}
 use Rattle.reader.proofs.HitLaws.{true-not-false, type-10, type-12, type-9, type-16, type-7, type-11}
 use Rattle.reader.proofs.BodyLaws.{slot-at}
 use Rattle.reader.proofs.PlaceLaws.{upTo5, count-is, inside-0, inside-1, inside-2, inside-3}
-use Rattle.reader.proofs.CodeLaws.{Code, code-4, code-5, code-6, code-7, code-8, code-9, code-10, code-11, code-12, six-8, six-5, both}
+use Rattle.reader.proofs.CodeLaws.{Code, code-4, code-5, code-6, code-7, code-8, code-9, code-10, code-11, code-12, six-8, six-5}
 use Rattle.reader.proofs.SoundLaws.{compoundsIn}
 
 -- ---- a compound that is not there carries nothing

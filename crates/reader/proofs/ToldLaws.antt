@@ -2,7 +2,7 @@
 use Prim.Native.Nat.{ℕ, zero, suc, _≤_, _<_}
 use mathlib.Core.Path.{_≡_, refl, sym, _∙_}
 use mathlib.Core.List.{List, [], _∷_}
-use mathlib.Core.Bool.{Bool, true, false, _&&_, not}
+use mathlib.Core.Bool.{Bool, true, false, _&&_, not, and-false}
 use lib.ListN.{length, getD, drop}
 use lib.Dec.{leb, eqb}
 use native.Mathlib.Omega.{arith}
@@ -15,7 +15,6 @@ use Rattle.reader.specs.Slots.{typeSlot}
 use Rattle.reader.specs.Pass.{bodyPass}
 use Rattle.reader.specs.Compounds.{descriptorRead, inOrderOf, pairOf, fourTold, fourOf, compoundsOf}
 use Rattle.reader.specs.Taken.{once, toldIn}
-use Rattle.reader.proofs.BoolLaws.{and-false}
 use Rattle.reader.proofs.SlotLaws.{once-is}
 use Rattle.reader.proofs.HitLaws.{type-10, type-12, type-9, type-16, type-7, type-11}
 use Rattle.reader.proofs.BodyLaws.{slot-at, last-is}

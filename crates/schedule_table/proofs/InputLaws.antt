@@ -1,8 +1,8 @@
 -- Laws of what is read: what each test decides, and that an accepted input has at most 79 octets.
 use mathlib.Core.Path.{_≡_, refl, sym, ap, _∙_}
-use mathlib.Core.Bool.{Bool, true, false, cond, _&&_, _||_, and-false, and-true, or-false}
+use mathlib.Core.Bool.{Bool, true, false, cond, _&&_, and-false, and-true, or-false}
 use mathlib.Core.List.{List, [], _∷_}
-use mathlib.Core.Logic.{_⊎_, inl, inr, ⊎-elim}
+use mathlib.Core.Logic.{⊎-elim}
 use Prim.Native.Nat.{ℕ, _+_, _-_, _≤_, _<_}
 use native.Mathlib.Numerals.{add-one}
 use native.Mathlib.Omega.{arith}
@@ -11,7 +11,7 @@ use lib.ListN.{length, getD, take, drop, drop-of-length-le, List·getD-eq-defaul
 use lib.Seq.{drop-cons, take-all, length-take-le}
 use borrow.Author.Tests.{eq-eqb, ne-eqb, eqb-true, eqb-false, leb-true}
 use Rattle.keys.proofs.ListLaws.{IfLt, if-lt}
-use Rattle.keys.proofs.TestLaws.{both}
+use Rattle.keys.proofs.TestLaws.{both, either}
 use Rattle.text.specs.declared.decimal.Number.{Number}
 use Rattle.text.specs.Decimal.{numberAt, numberOf, numberWhen, fitting, leading, valueOf, limit}
 use Rattle.schedule_table.specs.declared.input.Asked.{Asked}
@@ -170,10 +170,6 @@ few-digits s at = go (fitting (leading (drop at s))) refl
         → numberWhen t (valueOf (leading (drop at s))) (at + length (leading (drop at s))) .next ≤ at + 20
     go true e q = omega (arith, few (leading (drop at s)) e)
     go false e q = let z : _≡_ {A = ℕ} 0 1 = cc in absurd (omega arith)
-
-either : (a b : Bool) → (a || b) ≡ true → (a ≡ true) ⊎ (b ≡ true)
-either true b e = inl refl
-either false b e = inr e
 
 ends-soon : (s : List ℕ) (at : ℕ) → endsAt s at ≡ true → length s ≤ at + 1
 unfolding endsAt

@@ -2,7 +2,7 @@
 use Prim.Native.Nat.{ℕ, zero, suc, _+_, _/_, _%_, _≤_, _<_}
 use mathlib.Core.Path.{_≡_, refl, sym, ap, _∙_}
 use mathlib.Core.List.{List, [], _∷_, _++_, append-assoc}
-use mathlib.Core.Bool.{Bool, true, false, _&&_}
+use mathlib.Core.Bool.{Bool, true, false, _&&_, and-assoc}
 use lib.ListN.{length, getD, take, drop, length-append, List·getD-append}
 use lib.Seq.{drop-at, take-append-seam, getD-append-add}
 use lib.Dec.{eqb}
@@ -57,14 +57,10 @@ pub value-right : (k n : ℕ) (l m : List Item) → valueAt k (countOf k l + n) 
 unfolding valueAt countOf
 value-right k n l m = rw (values-append k l m) (getD-append-add (values k l) (values k m) n [])
 
-and-assoc : (a b c : Bool) → a && (b && c) ≡ (a && b) && c
-and-assoc true b c = refl
-and-assoc false b c = refl
-
 pub all-append : (g : ℕ → List ℕ → Bool) (l m : List Item) → allOf g (l ++ m) ≡ allOf g l && allOf g m
 unfolding allOf
 all-append g [] m = refl
-all-append g (attr k v ∷ l) m = ap (λ (b : Bool). g k v && b) (all-append g l m) ∙ and-assoc (g k v) (allOf g l) (allOf g m)
+all-append g (attr k v ∷ l) m = ap (λ (b : Bool). g k v && b) (all-append g l m) ∙ sym (and-assoc (g k v) (allOf g l) (allOf g m))
 all-append g (cut ∷ l) m = refl
 
 pub octets-append : (l m : List Item) → octets (l ++ m) ≡ octets l ++ octets m

@@ -14,7 +14,8 @@ use Rattle.wire.specs.Ranges.{neededOf, needs, among}
 use Rattle.wire.specs.Limits.{authKeyFits}
 use Rattle.wire.specs.Writing.{itemsOf, itemsOfTypes, itemsOfType, paramsItems, descriptorsItems}
 use Rattle.writer.specs.Parts.{paramsItem, namedItems, grantItems, BodyLength}
-use Rattle.writer.proofs.PartLaws.{length-items, length-none, length-two, length-four}
+use Rattle.wire.proofs.AttributesLaws.{length-two, length-four}
+use Rattle.writer.proofs.PartLaws.{length-items, length-none}
 
 -- the AUTH-Key's length, where the code carries one
 pub key-short : (f : Fields) (n : ℕ) → f .code ≡ 5 → authKeyFits f n ≡ true → n ≤ 256

@@ -11,18 +11,12 @@ use borrow.Author.Tests.{lt-ltb}
 use Rattle.keys.proofs.ListLaws.{of-four, IfLt, if-lt}
 use Rattle.wire.specs.declared.fields.Params.{Params}
 use Rattle.wire.specs.declared.fields.Descriptor.{Descriptor}
-use Rattle.wire.specs.Attributes.{Item, attr, octets, attrOctets, two, four}
+use Rattle.wire.specs.Attributes.{Item, attr, octets, attrOctets}
 use Rattle.wire.specs.Fields.{noDescriptor}
-use Rattle.wire.specs.Writing.{paramsItems, descriptorItems, descriptorsItems}
+use Rattle.wire.specs.Writing.{paramsItems, descriptorsItems}
+use Rattle.wire.proofs.AttributesLaws.{length-two, length-four}
+use Rattle.wire.proofs.PartsWritten.{descriptor-length}
 use Rattle.writer.specs.Parts.{descriptorIf}
-
-pub length-two : (n : ℕ) → length (two n) ≡ 2
-unfolding two
-length-two n = refl
-
-pub length-four : (n : ℕ) → length (four n) ≡ 4
-unfolding four
-length-four n = refl
 
 pub length-items : (k : ℕ) (v : List ℕ) (l : List Item) → length (octets (attr k v ∷ l)) ≡ 3 + length v + length (octets l)
 unfolding octets attrOctets
@@ -47,14 +41,10 @@ pub length-params : (p : Params) → length (p .tek .octets) ≡ 16 → length (
 unfolding paramsItems
 length-params p t v = simp (length-items, length-none, length-four, length-own (p .tek .width) (p .tek .octets) t, length-own (p .vector .width) (p .vector .octets) v) (omega arith)
 
-pub length-descriptor : (d : Descriptor) → length (octets (descriptorItems d)) ≡ 14
-unfolding descriptorItems
-length-descriptor d = simp (length-items, length-none, length-two)
-
 pub length-descriptors : (ds : List Descriptor) → length (octets (descriptorsItems ds)) ≡ 17 * length ds
 unfolding descriptorsItems
 length-descriptors [] = length-none
-length-descriptors (d ∷ ds) = simp (length-items, length-descriptor, length-descriptors ds) (omega arith)
+length-descriptors (d ∷ ds) = simp (length-items, descriptor-length, length-descriptors ds) (omega arith)
 
 pub length-first : (n : ℕ) (ds : List Descriptor) → length ds ≡ 4 → length (octets (descriptorsItems (take n ds))) ≡ 17 * min n 4
 length-first n ds s = simp (length-descriptors, length-take, s)

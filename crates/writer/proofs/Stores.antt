@@ -1,13 +1,14 @@
 -- Laws of runs of stores, `sets` of `lib.Seq`: they join end to end, whatever the lengths.
 use Prim.Native.Nat.{ℕ, suc, _+_, _≤_, _<_}
 use mathlib.Core.Path.{_≡_, refl, sym, ap, _∙_, subst}
-use mathlib.Core.List.{List, [], _∷_, _++_, append-nil, append-assoc}
+use mathlib.Core.List.{List, [], _∷_, _++_, append-nil}
 use native.Mathlib.Nat.{add-zero}
 use native.Mathlib.Numerals.{add-one}
 use native.Mathlib.Omega.{arith}
 use lib.ListN.{length, getD, take, drop, set, length-append}
 use lib.Seq.{sets, set-out, take-suc, length-take-le, sets-eq}
-use Rattle.wire.specs.Attributes.{Item, attr, cut, attrOctets, octets, two}
+use Rattle.wire.specs.Attributes.{Item, attr, attrOctets, octets, two}
+use Rattle.wire.proofs.HoldsLaws.{octets-append}
 use Rattle.writer.specs.Put.{Put, Wrote}
 
 pub sets-append : (xs ys l : List ℕ) (i : ℕ) → sets l i (xs ++ ys) ≡ sets (sets l i xs) (i + length xs) ys
@@ -54,12 +55,6 @@ put-whole {d} {vs} p h =
     p .stored ∙ sets-eq vs d 0 (omega arith) ∙ ap (λ (k : ℕ). vs ++ drop k d) z
 
 -- ---- attributes one after the other
-pub octets-append : (l m : List Item) → octets (l ++ m) ≡ octets l ++ octets m
-unfolding octets
-octets-append [] m = refl
-octets-append (attr k v ∷ l) m = ap (λ (r : List ℕ). attrOctets k v ++ r) (octets-append l m) ∙ sym (append-assoc (attrOctets k v) (octets l) (octets m))
-octets-append (cut ∷ l) m = octets-append l m
-
 pub then-items : {d : List ℕ} {at : ℕ} {l : List Item} {a : ℕ} {e : List ℕ} {m : List Item} {b : ℕ} {f : List ℕ} → Wrote d at l a e → Wrote e a m b f → Wrote d at (l ++ m) b f
 then-items {d} {at} {l} {a} {e} {m} p q = record { put = put-as (sym (octets-append l m)) (then-put (p .put) (q .put)) }
 

@@ -1,9 +1,9 @@
 -- `reader::range::is_needed` meets its contract.
 use mathlib.Core.Path.{_≡_}
 use Prim.Native.Nat.{ℕ}
-use mathlib.Core.Bool.{_||_}
+use mathlib.Core.Bool.{_||_, or-false}
 use lib.Dec.{eqb}
-use Rattle.reader.proofs.BoolLaws.{eqb-sym, or-false, or-three, or-four}
+use Rattle.reader.proofs.BoolLaws.{eqb-sym, or-three, or-four}
 use Rattle.wire.specs.Ranges.{needs as needs-of, among, neededOf}
 use borrow.Author.Tests.{ne-eqb}
 use native.Mathlib.Omega.{arith}

@@ -4,7 +4,7 @@ use native.Mathlib.Omega.{arith}
 use borrow.Author.Tests.{not-true, not-false}
 use borrow.Author.Needs.{needs}
 use Rattle.wire.specs.Writing.{descriptorItems}
-use Rattle.writer.proofs.PartLaws.{length-descriptor}
+use Rattle.wire.proofs.PartsWritten.{descriptor-length}
 use Rattle.writer.proofs.Stores.{then-items, then-value, wrote-none}
 use Rattle.writer.proofs.put.put_descriptor.Statement.{statement}
 use Rattle.writer.proofs.put.put_descriptor.Tie as tie
@@ -31,7 +31,7 @@ returns-2 : tie.Need-returns-2
 unfolding descriptorItems
 returns-2 c = (
   rw (not-false (c .before .before .before .before .before .before .before .before .before .before .before .before .before .before .before .before .before .before .args .on) (c .before .before .before .before .before .before .before .before .before .before .before .before .before .before .before .before .if1 .left))
-      (then-value (sym (length-descriptor (c .before .before .before .before .before .before .before .before .before .before .before .before .before .before .before .before .before .before .args .d))) (c .before .before .before .before .before .before .before .before .before .before .before .before .before .before .put-head .ensures .0) (then-items (c .before .before .before .before .before .before .before .before .before .before .put-two .ensures .0) (then-items (c .before .before .before .before .before .before .put-one .ensures .0) (c .before .before .put-two2 .ensures .0)) .put)),
+      (then-value (sym (descriptor-length (c .before .before .before .before .before .before .before .before .before .before .before .before .before .before .before .before .before .before .args .d))) (c .before .before .before .before .before .before .before .before .before .before .before .before .before .before .put-head .ensures .0) (then-items (c .before .before .before .before .before .before .before .before .before .before .put-two .ensures .0) (then-items (c .before .before .before .before .before .before .put-one .ensures .0) (c .before .before .put-two2 .ensures .0)) .put)),
   omega arith,
 )
 
