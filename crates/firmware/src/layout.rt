@@ -1,8 +1,6 @@
 // The fields of a message in octets, for C: read from 109 of them, or put into 117 with the places of the AUTH-Key and the digest.
 ghost use Prim.Native.Nat.{_+_, _≤_};
 ghost use mathlib.Core.Path.{_≡_};
-ghost use mathlib.Core.List.{_++_};
-ghost use lib.ListN.{length};
 ghost use Rattle.writer.specs.Put.{Put};
 ghost use Rattle.firmware.specs.Layout.{keyLaid, paramsLaid, descriptorLaid, descriptorsLaid, headLaid, fieldsOctets, placeLaid, readingOctets, keyFrom, paramsFrom, descriptorFrom, descriptorsFrom, fieldsFrom};
 use keys::numbers::AkNumber;
@@ -18,6 +16,7 @@ use wire::fields::KeyOctets;
 use wire::fields::Params;
 use wire::fields::Place;
 use wire::fields::Reading;
+use writer::put::put_octets;
 
 fn key_from(v: &[u8]) -> KeyOctets
     ensures { λ r. ⌜ r ≡ keyFrom (now (v .entry)) ⌝ }
@@ -79,22 +78,6 @@ pub fn fields_from(s: &[u8]) -> Fields
         older,
         newer,
     }
-}
-
-// Stores octets from a place on and answers the place after them; what has no room is dropped.
-fn put_octets(out: &mut [u8], at: usize, v: &[u8]) -> usize
-    requires { ⌜ at ≤ 4096 ⌝ }
-    ensures { λ r. ⌜ Put (now (out .entry)) at (now (v .entry)) r (now (out .exit)) ⌝ }
-{
-    let mut i: usize = 0;
-    while i < v.len() {
-        let place = at + i;
-        if place < out.len() {
-            out[place] = v[i];
-        }
-        i += 1;
-    }
-    at + i
 }
 
 fn put_key(out: &mut [u8], at: usize, k: KeyOctets) -> usize

@@ -3,5 +3,5 @@ mod lengths;
 pub mod limits;
 mod message;
 pub mod needed;
-mod put;
+pub mod put;
 pub mod write;
