@@ -18,8 +18,8 @@ use Rattle.wire.specs.declared.fields.Reading.{Reading}
 use Rattle.wire.specs.Messages.{messageAnswer}
 use Rattle.wire.specs.Reading.{readOf}
 use Rattle.wire.proofs.MessageAnswers.{read-answer}
-use Rattle.writer.specs.Put.{Put}
-use Rattle.writer.proofs.Stores.{put-whole}
+use Rattle.keys.specs.Put.{Put}
+use Rattle.keys.proofs.StoreLaws.{put-whole}
 use Rattle.firmware.specs.Layout.{readingOctets}
 use Rattle.firmware.specs.Read.{receiverAt, readQuestions, Call, callFor, readCallOf, Answers}
 

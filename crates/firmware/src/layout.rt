@@ -1,7 +1,7 @@
 // The fields of a message in octets, for C: read from 109 of them, or put into 117 with the places of the AUTH-Key and the digest.
 ghost use Prim.Native.Nat.{_+_, _≤_};
 ghost use mathlib.Core.Path.{_≡_};
-ghost use Rattle.writer.specs.Put.{Put};
+ghost use Rattle.keys.specs.Put.{Put};
 ghost use Rattle.firmware.specs.Layout.{keyLaid, paramsLaid, descriptorLaid, descriptorsLaid, headLaid, fieldsOctets, placeLaid, readingOctets, keyFrom, paramsFrom, descriptorFrom, descriptorsFrom, fieldsFrom};
 use keys::numbers::AkNumber;
 use keys::numbers::TekNumber;

@@ -2,3 +2,4 @@ pub mod OctetsLaws
 pub mod TestLaws
 pub mod ListLaws
 pub mod TrafficLaws
+pub mod StoreLaws

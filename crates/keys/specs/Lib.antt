@@ -7,3 +7,4 @@ pub mod Settings
 pub mod Refusal
 pub mod Questions
 pub mod Frame
+pub mod Put

@@ -16,7 +16,7 @@ use Rattle.machines.specs.Tek.{nothing}
 use Rattle.wire.specs.declared.fields.Fields.{Fields}
 use Rattle.wire.specs.declared.fields.Writing.{Writing}
 use Rattle.wire.specs.Writing.{messageOf, noDigest, writeQuestions, writtenOf, writeOf}
-use Rattle.writer.proofs.Stores.{sets-append}
+use Rattle.keys.proofs.StoreLaws.{sets-append}
 use Rattle.modem_steps.specs.declared.state.Out.{Out}
 use Rattle.modem.specs.Messages.{requestFields, requestOctets, requestsOctets, outOctets, RequestFits, OutFits}
 

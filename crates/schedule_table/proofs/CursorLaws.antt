@@ -9,6 +9,7 @@ use lib.Dec.{leb, eqb}
 use lib.ListN.{length, length-append}
 use lib.Seq.{sets, length-sets}
 use borrow.Author.Tests.{leb-true, le-leb}
+use Rattle.keys.specs.Put.{Put}
 use Rattle.keys.specs.Numbers.{tekNumber, afterOf}
 use Rattle.keys.specs.Settings.{lifeFits}
 use Rattle.keys.specs.Suites.{widthOf}
@@ -26,8 +27,8 @@ use Rattle.schedule_table.specs.declared.input.Input.the-variants.{Table
 use Rattle.schedule_table.specs.declared.print.Cursor.{Cursor}
 use Rattle.schedule_table.specs.declared.print.Printed.{Printed}
 use Rattle.schedule_table.specs.Schedule.{zeros, halfLife, header, askedFits, inputOf}
-use Rattle.schedule_table.specs.Print.{Put, Steady, Part, nothingAsked, cursorOf, nextOf, keyRow, newerRow, printedOf, startFor, startOf, partWhen, fillFor, fillOf}
-use Rattle.schedule_table.proofs.StoreLaws.{sets-append, sets-front, then-put, put-as}
+use Rattle.schedule_table.specs.Print.{Steady, Part, nothingAsked, cursorOf, nextOf, keyRow, newerRow, printedOf, startFor, startOf, partWhen, fillFor, fillOf}
+use Rattle.keys.proofs.StoreLaws.{sets-append, sets-front, then-put, put-as}
 
 -- ---- what is asked for, as facts
 pub record Limits (a : Asked) : Type 0 where

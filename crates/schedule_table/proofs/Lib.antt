@@ -1,6 +1,6 @@
 -- Laws that belong to no one function.
 pub mod InputLaws
-pub mod StoreLaws
+pub mod FieldLaws
 pub mod CursorLaws
 pub mod PrintLaws
 pub mod Edges

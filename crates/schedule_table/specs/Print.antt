@@ -5,7 +5,6 @@ use mathlib.Core.List.{List, [], _∷_, _++_}
 use Prim.Native.Nat.{ℕ, zero, suc, _+_, _-_, _*_, _/_, _≤_}
 use lib.Dec.{leb, eqb}
 use lib.ListN.{length}
-use lib.Seq.{sets}
 use Rattle.keys.specs.Numbers.{tekNumber}
 use Rattle.keys.specs.declared.traffic.TrafficKey.{TrafficKey}
 use Rattle.text.specs.Decimal.{decimalOf}
@@ -18,13 +17,6 @@ use Rattle.schedule_table.specs.declared.input.Input.the-variants.{Table
 use Rattle.schedule_table.specs.declared.print.Cursor.{Cursor}
 use Rattle.schedule_table.specs.declared.print.Printed.{Printed}
 use Rattle.schedule_table.specs.Schedule.{zeros, halfLife, everyHalf, rowOctets, rowsOf, header, inputOf}
-
--- ---- octets at a place
-
--- vs stored in d from a place on makes e, and `next` is the place after them
-pub record Put (d : List ℕ) (at : ℕ) (vs : List ℕ) (next : ℕ) (e : List ℕ) : Type 0 where
-  pub after : next ≡ at + length vs
-  pub stored : e ≡ sets d at vs
 
 -- A number and the octet after it
 unfoldable pub fieldOctets : ℕ → ℕ → List ℕ

@@ -1,8 +1,9 @@
 // The header and the rows of the table as octets, written at a place of a lent slice.
 ghost use Prim.Native.Nat.{_+_, _≤_};
 ghost use lib.ListN.{length};
+ghost use Rattle.keys.specs.Put.{Put};
 ghost use Rattle.schedule_table.specs.Schedule.{header, rowOctets};
-ghost use Rattle.schedule_table.specs.Print.{Put, fieldOctets};
+ghost use Rattle.schedule_table.specs.Print.{fieldOctets};
 use text::decimal::put_decimal;
 
 // Copies `line` to the front.

@@ -16,9 +16,9 @@ use Rattle.wire.specs.declared.fields.Writing.{Writing}
 use Rattle.wire.specs.Attributes.{two}
 use Rattle.wire.specs.Limits.{headFits, fieldsFit, authKeyFits}
 use Rattle.wire.specs.Writing.{message, messageOf, noDigest, writeQuestions, writtenOf, writeOf}
-use Rattle.writer.specs.Put.{Put}
+use Rattle.keys.specs.Put.{Put}
 use Rattle.writer.specs.Parts.{Writable, BodyLength}
-use Rattle.writer.proofs.Stores.{put-whole}
+use Rattle.keys.proofs.StoreLaws.{put-whole}
 
 fits-head : (f : Fields) → fieldsFit f ≡ true → headFits (f .code) (f .identifier) ≡ true
 unfolding fieldsFit

@@ -1,16 +1,9 @@
--- What a run of stores into a lent slice does.
-use Prim.Native.Nat.{ℕ, _+_}
-use mathlib.Core.Path.{_≡_}
+-- What a run of attributes stored in a lent slice does.
+use Prim.Native.Nat.{ℕ}
 use mathlib.Core.List.{List}
-use lib.ListN.{length}
-use lib.Seq.{sets}
+use Rattle.keys.specs.Put.{Put}
 use Rattle.wire.specs.Attributes.{Item, octets}
 
--- vs is stored in d from a place on, which gives e, and next is the place after it. A store past the end of d does nothing.
-pub record Put (d : List ℕ) (at : ℕ) (vs : List ℕ) (next : ℕ) (e : List ℕ) : Type 0 where
-  pub after : next ≡ at + length vs
-  pub stored : e ≡ sets d at vs
-
--- Attributes are stored so
+-- The octets of l are stored in d from a place on, which gives e, and next is the place after them
 pub record Wrote (d : List ℕ) (at : ℕ) (l : List Item) (next : ℕ) (e : List ℕ) : Type 0 where
   pub put : Put d at (octets l) next e

@@ -1,6 +1,6 @@
 -- `firmware::layout::put_descriptors` meets its contract.
 use Rattle.firmware.proofs.LayoutLaws.{laid-four}
-use Rattle.writer.proofs.Stores.{then-put, put-as}
+use Rattle.keys.proofs.StoreLaws.{then-put, put-as}
 use lib.ListN.{length}
 use mathlib.Core.Path.{_≡_}
 use native.Mathlib.Omega.{arith}

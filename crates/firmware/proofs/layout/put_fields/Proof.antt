@@ -1,5 +1,5 @@
 -- `firmware::layout::put_fields` meets its contract.
-use Rattle.writer.proofs.Stores.{then-put}
+use Rattle.keys.proofs.StoreLaws.{then-put}
 use Rattle.firmware.specs.Layout.{fieldsOctets}
 use native.Mathlib.Omega.{arith}
 use borrow.Author.Needs.{needs}

@@ -1,5 +1,5 @@
 -- `firmware::layout::put_key` meets its contract.
-use Rattle.writer.proofs.Stores.{then-put}
+use Rattle.keys.proofs.StoreLaws.{then-put}
 use Rattle.firmware.specs.Layout.{keyLaid}
 use lib.ListN.{length}
 use mathlib.Core.Path.{_≡_}

@@ -1,5 +1,5 @@
 -- `firmware::layout::put_params` meets its contract.
-use Rattle.writer.proofs.Stores.{then-put}
+use Rattle.keys.proofs.StoreLaws.{then-put}
 use Rattle.wire.specs.Attributes.{four}
 use Rattle.firmware.specs.Layout.{paramsLaid}
 use native.Mathlib.Omega.{arith}

@@ -7,7 +7,7 @@ use lib.ListN.{length, set}
 use denote.Ref.{now}
 use borrow.Author.Needs.{needs}
 use Rattle.text.specs.Decimal.{decimalOf}
-use Rattle.schedule_table.proofs.StoreLaws.{put-field, length-field}
+use Rattle.schedule_table.proofs.FieldLaws.{put-field, length-field}
 use Rattle.schedule_table.proofs.row.put_field.Statement.{statement}
 use Rattle.schedule_table.proofs.row.put_field.Tie as tie
 

@@ -1,5 +1,5 @@
 -- `put_line` meets its contract. The invariant: so many octets of the line are stored.
-use Prim.Native.Nat.{ℕ, _-_, _≤_}
+use Prim.Native.Nat.{ℕ, _+_, _-_, _≤_}
 use mathlib.Core.Path.{_≡_, refl, ap, _∙_}
 use mathlib.Core.List.{List}
 use native.Mathlib.Omega.{arith}
@@ -7,7 +7,7 @@ use lib.Seq.{sets, take-length}
 use lib.ListN.{length, getD, take, set, length-set}
 use denote.Ref.{now}
 use borrow.Author.Needs.{needs}
-use Rattle.schedule_table.proofs.StoreLaws.{sets-more}
+use Rattle.keys.proofs.StoreLaws.{sets-more}
 use Rattle.schedule_table.proofs.row.put_line.Statement.{statement}
 use Rattle.schedule_table.proofs.row.put_line.Tie as tie
 
@@ -35,11 +35,15 @@ loop-less c = search needs
 loop-again : tie.Need-loop-again Inv-loop μ-loop
 loop-again c =
     let line = now (c .before .before .before .args .line) in
-    let l = c .before .before .loop in (
+    let out = now (c .before .before .before .args .out) in
+    let l = c .before .before .loop in
+    let place : l .i ≡ 0 + l .i = omega arith in (
       omega arith,
       (
         simp length-set (l .inv .1 .0),
-        ap (λ (d : List ℕ). set d (l .i) (getD line (l .i) 0)) (l .inv .1 .1) ∙ sets-more (now (c .before .before .before .args .out)) line (l .i) (omega arith),
+        ap (λ (d : List ℕ). set d (l .i) (getD line (l .i) 0)) (l .inv .1 .1)
+            ∙ ap (λ (k : ℕ). set (sets out 0 (take (l .i) line)) k (getD line (l .i) 0)) place
+            ∙ sets-more out line 0 (l .i) (omega arith),
       ),
     )
 

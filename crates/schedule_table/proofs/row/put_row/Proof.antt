@@ -1,7 +1,8 @@
 -- `put_row` meets its contract: a row is four fields.
 use native.Mathlib.Omega.{arith}
 use borrow.Author.Needs.{needs}
-use Rattle.schedule_table.proofs.StoreLaws.{then-put, put-as, row-fields}
+use Rattle.keys.proofs.StoreLaws.{then-put, put-as}
+use Rattle.schedule_table.proofs.FieldLaws.{row-fields}
 use Rattle.schedule_table.proofs.row.put_row.Statement.{statement}
 use Rattle.schedule_table.proofs.row.put_row.Tie as tie
 

@@ -6,7 +6,7 @@ use denote.Ref.{now}
 use borrow.Author.Needs.{needs}
 use Rattle.wire.specs.Writing.{itemsOf, message, messageOf}
 use Rattle.wire.specs.Attributes.{octets, two}
-use Rattle.writer.proofs.Stores.{put-as, put-from, then-put}
+use Rattle.keys.proofs.StoreLaws.{put-as, put-from, then-put}
 use Rattle.writer.proofs.message.put_message.Statement.{statement}
 use Rattle.writer.proofs.message.put_message.Tie as tie
 

@@ -8,7 +8,7 @@ use lib.Seq.{sets, take-all, length-sets}
 use lib.ListN.{length, getD, take, set}
 use denote.Ref.{now}
 use borrow.Author.Needs.{needs}
-use Rattle.writer.proofs.Stores.{sets-more, sets-more-out}
+use Rattle.keys.proofs.StoreLaws.{sets-more, sets-more-out}
 use Rattle.writer.proofs.put.put_octets.Statement.{statement}
 use Rattle.writer.proofs.put.put_octets.Tie as tie
 
