@@ -20,25 +20,9 @@ use Rattle.wire.specs.Reading.{readOf}
 use Rattle.wire.proofs.MessageAnswers.{read-answer}
 use Rattle.keys.specs.Put.{Put}
 use Rattle.keys.proofs.StoreLaws.{put-whole}
+use Rattle.keys.proofs.AnswerLaws.{refusal-number}
 use Rattle.firmware.specs.Layout.{readingOctets}
 use Rattle.firmware.specs.Read.{receiverAt, readQuestions, Call, callFor, readCallOf, Answers}
-
--- no refusal has the number 0
-pub refusal-number : (r : Refusal) → numberOf r ≡ 0 → ⊥
-refusal-number OutOfLimits e = omega arith
-refusal-number WrongLength e = omega arith
-refusal-number ClockOutOfOrder e = omega arith
-refusal-number NoFreePlace e = omega arith
-refusal-number NotNew e = omega arith
-refusal-number CutMessage e = omega arith
-refusal-number CodeNotReceived e = omega arith
-refusal-number BadAttribute e = omega arith
-refusal-number WrongAttributes e = omega arith
-refusal-number UnknownSaid e = omega arith
-refusal-number WrongIdentifier e = omega arith
-refusal-number DigestFails e = omega arith
-refusal-number NoKeyForFrame e = omega arith
-refusal-number NoKeyToSeal e = omega arith
 
 pub not-head-end : (n : ℕ) → (n ≡ 0 → ⊥) → Modem ≡ receiverAt n
 not-head-end zero h = absurd (h refl)

@@ -3,3 +3,4 @@ pub mod TestLaws
 pub mod ListLaws
 pub mod TrafficLaws
 pub mod StoreLaws
+pub mod AnswerLaws

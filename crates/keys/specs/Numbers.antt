@@ -23,3 +23,10 @@ tekNumber g = record { 0 = g % 16 }
 -- The number of the generation k after the one numbered n
 abbrev pub afterOf : TekNumber → ℕ → TekNumber
 afterOf n k = record { 0 = (n .0 + k) % 16 }
+
+abbrev pub sameAk : AkNumber → AkNumber → Bool
+sameAk a b = eqb (a .0) (b .0)
+
+-- The number of the authorization key k after the one numbered n
+abbrev pub akAfter : AkNumber → ℕ → AkNumber
+akAfter n k = record { 0 = (n .0 + k) % 16 }

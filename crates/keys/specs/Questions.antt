@@ -14,3 +14,11 @@ pub record Question : Type 0 where
 abbrev pub firstNo : List Question → Answer
 firstNo [] = Done
 firstNo (q ∷ qs) = cond (q .met) (firstNo qs) (Refused (q .refusal))
+
+-- Questions, then an answer that a part of the call found for those that come next, then the rest
+abbrev pub answerThen : Answer → Answer → Answer
+answerThen Done later = later
+answerThen (Refused r) later = Refused r
+
+abbrev pub firstThen : List Question → Answer → List Question → Answer
+firstThen qs found later = answerThen (firstNo qs) (answerThen found (firstNo later))

@@ -1,4 +1,5 @@
 -- Document 01's number of each refusal and of each answer ("The questions, in order").
+use mathlib.Core.Bool.{Bool, true, false}
 use Prim.Native.Nat.{ℕ}
 use Rattle.keys.specs.declared.refusal.Refusal.{Refusal}
 use Rattle.keys.specs.declared.refusal.Refusal.the-variants.{OutOfLimits, WrongLength, ClockOutOfOrder, NoFreePlace, NotNew, CutMessage, CodeNotReceived, BadAttribute, WrongAttributes, UnknownSaid, WrongIdentifier, DigestFails, NoKeyForFrame, NoKeyToSeal}
@@ -25,3 +26,7 @@ numberOf NoKeyToSeal = 14
 abbrev pub answerNumber : Answer → ℕ
 answerNumber Done = 0
 answerNumber (Refused r) = numberOf r
+
+abbrev pub isDone : Answer → Bool
+isDone Done = true
+isDone (Refused r) = false

@@ -37,3 +37,12 @@ waitsFit w =
 
 unfoldable pub settingsFit : Settings → Bool
 settingsFit s = tekTimesFit (s .tek) && akTimesFit (s .ak) && waitsFit (s .waits)
+
+-- Settings that are all zero; they are not within the limits
+abbrev pub noSettings : Settings
+noSettings =
+    record {
+      tek = record { life = 0; grace = 0 };
+      ak = record { life = 0; grace = 0 };
+      waits = record { authorize = 0; reauthorize = 0; operational = 0; rekey = 0; reject = 0 };
+    }

@@ -1,6 +1,6 @@
 // Key numbers of both kinds, 0 to 15. They are two types so that no function takes one for the other.
 ghost use mathlib.Core.Path.{_≡_};
-ghost use Rattle.keys.specs.Numbers.{afterOf, akInRange, tekInRange, sameTek};
+ghost use Rattle.keys.specs.Numbers.{afterOf, akAfter, akInRange, tekInRange, sameAk, sameTek};
 
 // The number of an authorization key.
 #[repr(C)]
@@ -33,4 +33,17 @@ pub fn tek_after(n: TekNumber, k: u8) -> TekNumber
     ensures { λ r. ⌜ r ≡ afterOf n k ⌝ }
 {
     TekNumber((n.0 % 16 + k % 16) % 16)
+}
+
+pub fn same_ak(a: AkNumber, b: AkNumber) -> bool
+    ensures { λ r. ⌜ r ≡ sameAk a b ⌝ }
+{
+    a.0 == b.0
+}
+
+// The number of the authorization key `k` after the one numbered `n`.
+pub fn ak_after(n: AkNumber, k: u8) -> AkNumber
+    ensures { λ r. ⌜ r ≡ akAfter n k ⌝ }
+{
+    AkNumber((n.0 % 16 + k % 16) % 16)
 }

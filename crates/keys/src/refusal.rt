@@ -1,6 +1,9 @@
 // What a call answers: done, or refused by one of the 14 questions, and document 01's number of each.
 ghost use mathlib.Core.Path.{_≡_};
-ghost use Rattle.keys.specs.Refusal.{numberOf, answerNumber};
+ghost use mathlib.Core.Bool.{cond};
+ghost use Rattle.keys.specs.declared.refusal.Answer.the-variants.{Refused};
+ghost use Rattle.keys.specs.Questions.{answerThen};
+ghost use Rattle.keys.specs.Refusal.{numberOf, answerNumber, isDone};
 
 pub enum Refusal {
     OutOfLimits,
@@ -51,5 +54,34 @@ pub fn answer_number(a: Answer) -> u8
     match a {
         Answer::Done => 0,
         Answer::Refused(r) => number(r),
+    }
+}
+
+pub fn is_done(a: Answer) -> bool
+    ensures { λ r. ⌜ r ≡ isDone a ⌝ }
+{
+    match a {
+        Answer::Done => true,
+        Answer::Refused(_) => false,
+    }
+}
+
+// One question: the answer to those after it, or its refusal where it is not met.
+pub fn ask(met: bool, no: Refusal, later: Answer) -> Answer
+    ensures { λ r. ⌜ r ≡ cond met later (Refused no) ⌝ }
+{
+    if met {
+        return later;
+    }
+    Answer::Refused(no)
+}
+
+// The answer to questions that come first, or to those after them where nothing is refused.
+pub fn and_then(a: Answer, later: Answer) -> Answer
+    ensures { λ r. ⌜ r ≡ answerThen a later ⌝ }
+{
+    match a {
+        Answer::Done => later,
+        Answer::Refused(_) => a,
     }
 }

@@ -1,6 +1,6 @@
 // The settings that both ends share, and the question that asks their limits (question 1).
 ghost use mathlib.Core.Path.{_≡_};
-ghost use Rattle.keys.specs.Settings.{halfOf, lifeFits, tekTimesFit, akTimesFit, waitFits, waitsFit, settingsFit};
+ghost use Rattle.keys.specs.Settings.{halfOf, lifeFits, tekTimesFit, akTimesFit, waitFits, waitsFit, settingsFit, noSettings};
 
 // Traffic keys: lifetime L and grace, in seconds.
 #[repr(C)]
@@ -82,4 +82,24 @@ pub fn settings_fit(s: Settings) -> bool
     let ak = s.ak;
     let waits = s.waits;
     tek_times_fit(tek) & ak_times_fit(ak) & waits_fit(waits)
+}
+
+// All zero.
+pub fn no_settings() -> Settings
+    ensures { λ r. ⌜ r ≡ noSettings ⌝ }
+{
+    let tek = TekTimes { life: 0, grace: 0 };
+    let ak = AkTimes { life: 0, grace: 0 };
+    let waits = Waits {
+        authorize: 0,
+        reauthorize: 0,
+        operational: 0,
+        rekey: 0,
+        reject: 0,
+    };
+    Settings {
+        tek: tek,
+        ak: ak,
+        waits: waits,
+    }
 }

@@ -11,6 +11,8 @@ use Rattle.keys.specs.declared.refusal.Refusal.{Refusal}
 use Rattle.keys.specs.declared.refusal.Refusal.the-variants.{OutOfLimits, WrongLength, ClockOutOfOrder, CutMessage, CodeNotReceived, BadAttribute, WrongAttributes, UnknownSaid, WrongIdentifier, DigestFails}
 use Rattle.keys.specs.Octets.{overlay}
 use Rattle.keys.specs.Questions.{Question, firstNo}
+use Rattle.keys.specs.Refusal.{isDone}
+use Rattle.keys.proofs.AnswerLaws.{is-done}
 use Rattle.wire.specs.declared.fields.Receiver.{Receiver}
 use Rattle.wire.specs.declared.fields.Receiver.the-variants.{Modem as AtModem}
 use Rattle.wire.specs.declared.fields.Reading.{Reading}
@@ -25,7 +27,7 @@ use Rattle.modem.specs.Limits.{modemFits}
 use Rattle.modem_steps.specs.State.{starting}
 use Rattle.modem_steps.specs.Machine.{plainEvent}
 use Rattle.modem.specs.Messages.{outOctets, OutFits}
-use Rattle.modem.specs.Calls.{resultOf, refusedCall, answeredCall, isDone, doneCall, firstQuestions, clockFits}
+use Rattle.modem.specs.Calls.{resultOf, refusedCall, answeredCall, doneCall, firstQuestions, clockFits}
 
 -- ---- what is given for an answer
 module _ (m : Modem) (lent : List ℕ) (answer : Answer) (w : Work) where
@@ -41,10 +43,6 @@ pub handed-on : (m : Modem) (lent : List ℕ) (w : Work) (read answer : Answer) 
     → c ≡ answeredCall read m → (c ≡ resultOf answer m w .called) × (lent ≡ overlay lent (resultOf answer m w .written))
 handed-on m lent w Done answer c e same ec = let z : _≡_ {A = ℕ} 0 1 = cc in absurd (omega arith)
 handed-on m lent w (Refused r) answer c e same ec = rw (same r refl) (ec, refl)
-
-pub is-done : (a : Answer) → isDone a ≡ true → a ≡ Done
-is-done Done e = refl
-is-done (Refused r) e = let z : _≡_ {A = ℕ} 0 1 = cc in absurd (omega arith)
 
 -- ---- questions 1 and 2, before any others
 module _ (m : Modem) (lent : ℕ) (qs : List Question) where

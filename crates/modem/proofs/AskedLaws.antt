@@ -19,7 +19,7 @@ use Rattle.wire.specs.Fields.{carried, paramsOf, fieldsOf}
 use Rattle.wire.specs.Reading.{takenOf}
 use Rattle.wire.proofs.HoldsLaws.{never}
 use Rattle.wire.proofs.CodesLaws.{by-code}
-use Rattle.wire.proofs.AnswerLaws.{done-met}
+use Rattle.keys.proofs.AnswerLaws.{done-met}
 use Rattle.wire.proofs.MessageAnswers.{answer-done}
 use Rattle.wire.proofs.PartsWritten.{params-fit}
 use Rattle.wire.proofs.PartsRead.{params-read-fit}

@@ -17,7 +17,7 @@ use Rattle.keys.specs.Settings.{settingsFit}
 use Rattle.keys.proofs.TestLaws.{both}
 use Rattle.wire.specs.declared.fields.Receiver.the-variants.{Modem as AtModem}
 use Rattle.wire.specs.Messages.{question9, messageAnswer}
-use Rattle.wire.proofs.AnswerLaws.{done-met}
+use Rattle.keys.proofs.AnswerLaws.{done-met}
 use Rattle.wire.proofs.MessageAnswers.{answer-done}
 use Rattle.modem_steps.specs.declared.state.Modem.{Modem}
 use Rattle.modem_steps.specs.declared.state.Work.{Work}

@@ -15,7 +15,7 @@ use Rattle.keys.specs.declared.numbers.AkNumber.{AkNumber}
 use Rattle.wire.specs.declared.fields.Params.{Params}
 use Rattle.wire.specs.declared.fields.Receiver.the-variants.{Modem as AtModem}
 use Rattle.wire.specs.Messages.{question9, messageAnswer}
-use Rattle.wire.proofs.AnswerLaws.{no-refused}
+use Rattle.keys.proofs.AnswerLaws.{no-refused}
 use Rattle.wire.proofs.MessageAnswers.{answer-done}
 use Rattle.machines.specs.declared.authorization.Authorization.{Authorization}
 use Rattle.machines.specs.declared.authorization.AuthMoment.{AuthMoment}

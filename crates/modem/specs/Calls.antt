@@ -1,6 +1,6 @@
 -- The modem's calls: the questions in document 01's order, and what is done where all are met.
 use Prim.Native.Nat.{ℕ}
-use mathlib.Core.Bool.{Bool, true, false, _&&_}
+use mathlib.Core.Bool.{Bool, _&&_}
 use mathlib.Core.List.{List, [], _∷_, _++_}
 use lib.Dec.{leb, ltb}
 use lib.ListN.{length}
@@ -10,11 +10,11 @@ use Rattle.keys.specs.declared.refusal.Refusal.{Refusal}
 use Rattle.keys.specs.declared.refusal.Refusal.the-variants.{OutOfLimits, WrongLength, ClockOutOfOrder}
 use Rattle.keys.specs.declared.settings.Settings.{Settings}
 use Rattle.keys.specs.Questions.{Question, firstNo}
-use Rattle.keys.specs.Settings.{settingsFit}
+use Rattle.keys.specs.Settings.{settingsFit, noSettings}
 use Rattle.modem_steps.specs.declared.state.Modem.{Modem}
 use Rattle.modem_steps.specs.declared.state.Work.{Work}
 use Rattle.modem_steps.specs.declared.state.Called.{Called}
-use Rattle.modem_steps.specs.State.{freshOf, noSettings, starting}
+use Rattle.modem_steps.specs.State.{freshOf, starting}
 use Rattle.modem.specs.Limits.{modemFits}
 use Rattle.modem_steps.specs.Machine.{plainEvent}
 use Rattle.modem_steps.specs.Clock.{clocked}
@@ -33,10 +33,6 @@ abbrev pub refusedCall : Refusal → Modem → Called
 refusedCall r m = record { answer = Refused r; modem = m; count = 0 }
 
 -- ---- a refusal that is handed on
-abbrev pub isDone : Answer → Bool
-isDone Done = true
-isDone (Refused r) = false
-
 abbrev pub answeredCall : Answer → Modem → Called
 answeredCall a m = record { answer = a; modem = m; count = 0 }
 

@@ -4,9 +4,8 @@ ghost use mathlib.Core.Path.{_≡_};
 ghost use Prim.Native.Nat.{_≤_};
 ghost use lib.ListN.{length};
 ghost use Rattle.keys.specs.Octets.{overlay};
-ghost use Rattle.modem_steps.specs.State.{noSettings};
 ghost use Rattle.modem.specs.Messages.{outOctets, OutFits};
-ghost use Rattle.modem.specs.Calls.{refusedCall, answeredCall, isDone, doneCall, newOf, eventOf, establishedOf, reauthOf, clockOf, receiveOf};
+ghost use Rattle.modem.specs.Calls.{refusedCall, answeredCall, doneCall, newOf, eventOf, establishedOf, reauthOf, clockOf, receiveOf};
 use crate::limits::modem_fits;
 use crate::messages::put_out;
 use crate::receive::digest_holds;
@@ -16,10 +15,9 @@ use crate::receive::said_known;
 use crate::receive::widths_fit;
 use keys::refusal::Answer;
 use keys::refusal::Refusal;
-use keys::settings::AkTimes;
+use keys::refusal::is_done;
 use keys::settings::Settings;
-use keys::settings::TekTimes;
-use keys::settings::Waits;
+use keys::settings::no_settings;
 use keys::settings::settings_fit;
 use modem_steps::clock::clocked;
 use modem_steps::state::Called;
@@ -37,15 +35,6 @@ fn refused(m: Modem, r: Refusal) -> Called
         answer: Answer::Refused(r),
         modem: m,
         count: 0,
-    }
-}
-
-fn is_done(a: Answer) -> bool
-    ensures { λ r. ⌜ r ≡ isDone a ⌝ }
-{
-    match a {
-        Answer::Done => true,
-        Answer::Refused(_) => false,
     }
 }
 
@@ -72,25 +61,6 @@ fn done(w: Work, out: &mut [u8]) -> Called
         answer: Answer::Done,
         modem: m,
         count: n,
-    }
-}
-
-fn no_settings() -> Settings
-    ensures { λ r. ⌜ r ≡ noSettings ⌝ }
-{
-    let tek = TekTimes { life: 0, grace: 0 };
-    let ak = AkTimes { life: 0, grace: 0 };
-    let waits = Waits {
-        authorize: 0,
-        reauthorize: 0,
-        operational: 0,
-        rekey: 0,
-        reject: 0,
-    };
-    Settings {
-        tek: tek,
-        ak: ak,
-        waits: waits,
     }
 }
 

@@ -6,10 +6,10 @@ ghost use lib.Seq.{sets};
 ghost use Rattle.keys.specs.Octets.{overlay};
 ghost use Rattle.modem.specs.Messages.{requestFields, requestOctets, outOctets, RequestFits, OutFits};
 use machines::tek::Request;
-use modem_steps::slots::no_params;
 use modem_steps::state::Out;
-use wire::fields::Descriptor;
 use wire::fields::Fields;
+use wire::fields::no_descriptors;
+use wire::fields::no_params;
 use writer::write::write;
 
 fn request_fields(r: Request) -> Fields
@@ -17,11 +17,7 @@ fn request_fields(r: Request) -> Fields
 {
     let none = no_params();
     let ak = r.ak;
-    let d = Descriptor {
-        said: 0,
-        kind: 0,
-        suite: 0,
-    };
+    let ds = no_descriptors();
     Fields {
         code: r.code,
         identifier: r.identifier,
@@ -30,7 +26,7 @@ fn request_fields(r: Request) -> Fields
         life: 0,
         error: 0,
         count: 0,
-        descriptors: [d; 4],
+        descriptors: ds,
         older: none,
         newer: none,
     }

@@ -95,14 +95,6 @@ freshOf settings address said =
       refused = 0;
     }
 
-abbrev pub noSettings : Settings
-noSettings =
-    record {
-      tek = record { life = 0; grace = 0 };
-      ak = record { life = 0; grace = 0 };
-      waits = record { authorize = 0; reauthorize = 0; operational = 0; rekey = 0; reject = 0 };
-    }
-
 -- ---- what a step asks so that no sum wraps; it is about the clock and the settings, which no step changes
 pub record ReadyAt (clock : ℕ) (w : Waits) : Type 0 where
   pub clock-small : clock ≤ 1000000000000

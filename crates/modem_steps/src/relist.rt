@@ -3,7 +3,6 @@ ghost use mathlib.Core.Path.{_≡_};
 ghost use Prim.Native.Nat.{_≤_, _<_};
 ghost use Rattle.modem_steps.specs.State.{Ready};
 ghost use Rattle.modem_steps.specs.Relist.{hasAt, lists, emptied, appended, keptIf, keptOne, keptTo, freshTek, startedIf, startedOne, startedTo, listedAnew, relisted};
-use crate::slots::no_params;
 use crate::slots::slot_of_said;
 use crate::slots::tek_moment;
 use crate::state::Modem;
@@ -15,6 +14,7 @@ use machines::tek::no_pair;
 use machines::timer::cleared;
 use wire::fields::Descriptor;
 use wire::fields::Fields;
+use wire::fields::no_params;
 
 fn has_at(f: Fields, i: usize, said: u16, suite: u16) -> bool
     requires { ⌜ i < 4 ⌝ }

@@ -6,27 +6,11 @@ ghost use Rattle.modem_steps.specs.State.{Ready};
 ghost use Rattle.modem_steps.specs.Slots.{tekMoment, steppedAt, toldReply, told, toldAll, isWaiting, slotOfSaid, asking, slotAsking};
 use crate::state::Modem;
 use crate::state::Work;
-use keys::numbers::TekNumber;
 use machines::tek::Tek;
 use machines::tek::TekMoment;
 use machines::tek::TekStep;
-use wire::fields::KeyOctets;
 use wire::fields::Params;
-
-pub fn no_params() -> Params
-    ensures { λ r. ⌜ r ≡ noParams ⌝ }
-{
-    let none = KeyOctets {
-        width: 0,
-        octets: [0u8; 16],
-    };
-    Params {
-        number: TekNumber(0),
-        life: 0,
-        tek: none,
-        vector: none,
-    }
-}
+use wire::fields::no_params;
 
 // What a step of a TEK machine uses of the modem.
 pub fn tek_moment(m: Modem) -> TekMoment

@@ -12,9 +12,10 @@ use crate::octets::part;
 use crate::pass::pass_inside;
 use keys::numbers::TekNumber;
 use wire::fields::Descriptor;
-use wire::fields::KeyOctets;
 use wire::fields::Params;
 use wire::fields::Place;
+use wire::fields::no_descriptors;
+use wire::fields::no_params;
 
 // Of one TEK-Parameters: question 8, whether each needed attribute is there once, and the fields.
 pub struct ParamsRead {
@@ -148,36 +149,6 @@ fn are_four_told(
         & ((n <= 2) | (b != c))
         & ((n <= 3) | (b != d))
         & ((n <= 3) | (c != d))
-}
-
-pub fn no_descriptors() -> [Descriptor; 4]
-    ensures { λ r. ⌜ r ≡ replicate 4 noDescriptor ⌝ }
-{
-    let none = Descriptor {
-        said: 0,
-        kind: 0,
-        suite: 0,
-    };
-    [none; 4]
-}
-
-pub fn no_params() -> Params
-    ensures { λ r. ⌜ r ≡ noParams ⌝ }
-{
-    let tek = KeyOctets {
-        width: 0,
-        octets: [0u8; 16],
-    };
-    let vector = KeyOctets {
-        width: 0,
-        octets: [0u8; 16],
-    };
-    Params {
-        number: TekNumber(0),
-        life: 0,
-        tek,
-        vector,
-    }
 }
 
 fn four_in(m: &[u8], count: usize, at: [Place; 4]) -> Compounds

@@ -7,8 +7,6 @@ ghost use Rattle.wire.specs.Reading.{readOf};
 ghost use Rattle.reader.specs.Taken.{toldIn, takenFrom, refusedReading};
 use crate::compound::Compounds;
 use crate::compound::compounds_in;
-use crate::compound::no_descriptors;
-use crate::compound::no_params;
 use crate::octets::be16_of;
 use crate::octets::be32_of;
 use crate::octets::octet;
@@ -22,6 +20,8 @@ use wire::fields::Fields;
 use wire::fields::Place;
 use wire::fields::Reading;
 use wire::fields::Receiver;
+use wire::fields::no_descriptors;
+use wire::fields::no_params;
 
 fn length_of(s: &[u8]) -> usize
     ensures { λ r. ⌜ (r ≡ lengthOf (now (s .entry))) × (r ≤ 65535) ⌝ }

@@ -1,1 +1,3 @@
 pub mod RecordsLaws
+pub mod Again
+pub mod Shown

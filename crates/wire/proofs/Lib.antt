@@ -2,7 +2,6 @@ pub mod AttributesLaws
 pub mod HoldsLaws
 pub mod CodesLaws
 pub mod Vectors
-pub mod AnswerLaws
 pub mod ApartLaws
 pub mod MessageAnswers
 pub mod PartsWritten

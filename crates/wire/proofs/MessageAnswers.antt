@@ -13,7 +13,7 @@ use Rattle.keys.specs.Refusal.{numberOf}
 use Rattle.wire.specs.declared.fields.Receiver.{Receiver}
 use Rattle.wire.specs.Messages.{isWhole, question7, question8, question9, messageQuestions, messageAnswer}
 use Rattle.wire.specs.Reading.{takenOf, readingFor, readOf}
-use Rattle.wire.proofs.AnswerLaws.{NoAt, met-done, done-met, no-refused, refused-no}
+use Rattle.keys.proofs.AnswerLaws.{NoAt, met-done, done-met, no-refused, refused-no}
 
 module _ (e : Receiver) (s : List ℕ) where
   -- the first no stands at the place that its number tells

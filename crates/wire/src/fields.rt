@@ -1,4 +1,7 @@
 // The fields of a message, by value.
+ghost use mathlib.Core.Path.{_≡_};
+ghost use lib.ListN.{replicate};
+ghost use Rattle.wire.specs.Fields.{noDescriptor, noParams};
 use keys::numbers::AkNumber;
 use keys::numbers::TekNumber;
 use keys::refusal::Answer;
@@ -69,4 +72,32 @@ pub struct Reading {
 pub struct Writing {
     pub answer: Answer,
     pub count: usize,
+}
+
+// No TEK-Parameters.
+pub fn no_params() -> Params
+    ensures { λ r. ⌜ r ≡ noParams ⌝ }
+{
+    let none = KeyOctets {
+        width: 0,
+        octets: [0u8; 16],
+    };
+    Params {
+        number: TekNumber(0),
+        life: 0,
+        tek: none,
+        vector: none,
+    }
+}
+
+// No descriptors.
+pub fn no_descriptors() -> [Descriptor; 4]
+    ensures { λ r. ⌜ r ≡ replicate 4 noDescriptor ⌝ }
+{
+    let none = Descriptor {
+        said: 0,
+        kind: 0,
+        suite: 0,
+    };
+    [none; 4]
 }

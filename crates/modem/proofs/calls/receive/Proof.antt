@@ -3,7 +3,8 @@ use Rattle.modem.proofs.AnswerLaws.{refused-by, done-by, handed-on, lim
 use Rattle.modem.proofs.SentFits.{message-out}
 use Rattle.modem.proofs.AskedLaws.{fits-ready, takeable}
 use Rattle.modem_steps.specs.declared.state.Work.{Work}
-use Rattle.modem.specs.Calls.{receiveOf, isDone}
+use Rattle.keys.specs.Refusal.{isDone}
+use Rattle.modem.specs.Calls.{receiveOf}
 use Rattle.modem.specs.Messages.{OutFits}
 use Rattle.modem.specs.Limits.{modemFits}
 use Rattle.modem_steps.specs.Receive.{widthsFit, saidKnown, identifierFits, digestHolds, receiveQuestions, Takeable, received, fieldsIn}

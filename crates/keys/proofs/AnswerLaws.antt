@@ -1,12 +1,15 @@
--- What an answer says of the questions of a call, over any list of them. This file rests on crate `keys` alone.
+-- What an answer says of the questions of a call, over any list of them; and the numbers of answers.
 use Prim.Native.Nat.{ℕ, zero, suc}
 use mathlib.Core.Path.{_≡_, refl, sym, ap, _∙_}
 use mathlib.Core.List.{List, [], _∷_}
 use mathlib.Core.Bool.{Bool, true, false, cond}
 use native.Mathlib.Omega.{arith}
 use Rattle.keys.specs.declared.refusal.Refusal.{Refusal}
+use Rattle.keys.specs.declared.refusal.Answer.{Answer}
 use Rattle.keys.specs.declared.refusal.Answer.the-variants.{Done, Refused}
+use Rattle.keys.specs.declared.refusal.Refusal.the-variants.{OutOfLimits, WrongLength, ClockOutOfOrder, NoFreePlace, NotNew, CutMessage, CodeNotReceived, BadAttribute, WrongAttributes, UnknownSaid, WrongIdentifier, DigestFails, NoKeyForFrame, NoKeyToSeal}
+use Rattle.keys.specs.Refusal.{numberOf, answerNumber, isDone}
 use Rattle.keys.specs.Questions.{Question, firstNo}
 
 -- Every question is met
 abbrev pub AllMet : List Question → Type 0
@@ -54,3 +57,29 @@ no-once zero zero r t (q ∷ qs) h g = refl
 no-once zero (suc m) r t (q ∷ qs) h g = let z : true ≡ false = sym (g .0) ∙ h .0 in let y : _≡_ {A = ℕ} 0 1 = cc in absurd (omega arith)
 no-once (suc n) zero r t (q ∷ qs) h g = let z : true ≡ false = sym (h .0) ∙ g .0 in let y : _≡_ {A = ℕ} 0 1 = cc in absurd (omega arith)
 no-once (suc n) (suc m) r t (q ∷ qs) h g = ap suc (no-once n m r t qs (h .1) (g .1))
+
+-- ---- done, or not
+pub is-done : (a : Answer) → isDone a ≡ true → a ≡ Done
+is-done Done e = refl
+is-done (Refused r) e = let z : _≡_ {A = ℕ} 0 1 = cc in absurd (omega arith)
+
+-- No refusal has the number 0
+pub refusal-number : (r : Refusal) → numberOf r ≡ 0 → ⊥
+refusal-number OutOfLimits e = omega arith
+refusal-number WrongLength e = omega arith
+refusal-number ClockOutOfOrder e = omega arith
+refusal-number NoFreePlace e = omega arith
+refusal-number NotNew e = omega arith
+refusal-number CutMessage e = omega arith
+refusal-number CodeNotReceived e = omega arith
+refusal-number BadAttribute e = omega arith
+refusal-number WrongAttributes e = omega arith
+refusal-number UnknownSaid e = omega arith
+refusal-number WrongIdentifier e = omega arith
+refusal-number DigestFails e = omega arith
+refusal-number NoKeyForFrame e = omega arith
+refusal-number NoKeyToSeal e = omega arith
+
+pub number-done : (a : Answer) → answerNumber a ≡ 0 → a ≡ Done
+number-done Done e = refl
+number-done (Refused r) e = absurd (refusal-number r e)

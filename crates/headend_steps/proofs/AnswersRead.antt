@@ -1,0 +1,195 @@
+-- The modem's reader reads back exactly the fields of each of the head-end's answers, whatever padding follows.
+use mathlib.Core.Path.{_≡_, refl}
+use mathlib.Core.Bool.{Bool, true, false, cond, not}
+use mathlib.Core.List.{List, _++_}
+use Prim.Native.Nat.{ℕ, _≤_}
+use native.Mathlib.Omega.{arith}
+use lib.Dec.{leb, eqb}
+use lib.ListN.{length}
+use borrow.Author.Tests.{ne-eqb, le-leb}
+use Rattle.keys.specs.declared.refusal.Answer.the-variants.{Done}
+use Rattle.wire.specs.declared.fields.Fields.{Fields}
+use Rattle.wire.specs.declared.fields.Reading.{Reading}
+use Rattle.wire.specs.declared.fields.Receiver.the-variants.{Modem}
+use Rattle.wire.specs.Ranges.{neededOf, among, needs}
+use Rattle.wire.specs.Messages.{receives, receiverOf}
+use Rattle.wire.specs.Fields.{noFields}
+use Rattle.wire.specs.Reading.{readOf}
+use Rattle.wire.specs.Limits.{fieldsFit, authKeyFits}
+use Rattle.wire.specs.Writing.{noDigest}
+use Rattle.wire.proofs.HoldsLaws.{never}
+use Rattle.wire.proofs.CodesLaws.{by-code}
+use Rattle.wire.proofs.FieldsFit.{Shaped, fit}
+use Rattle.wire.proofs.WrittenRead.{keyPlace, digestPlace, written-read}
+use Rattle.association.specs.declared.listing.Listing.{Listing}
+use Rattle.association.specs.declared.record.Assoc.{Assoc}
+use Rattle.association.specs.declared.search.Found.{Found}
+use Rattle.association.proofs.RecordLaws.{InLimits}
+use Rattle.headend_steps.specs.declared.state.AuthKeys.{AuthKeys}
+use Rattle.headend_steps.specs.declared.state.HeadEnd.{HeadEnd}
+use Rattle.headend_steps.specs.declared.entries.Known.{Known}
+use Rattle.headend_steps.specs.Authorization.{lifeLeft}
+use Rattle.headend_steps.specs.Entries.{knownOf}
+use Rattle.headend_steps.specs.Answers.{errorAnswer, reject, invalid, keyReject, replyAnswer, keyReply, keyAnswer, keysAfter, requestAnswer, requestReaction, reactionOf}
+use Rattle.headend_steps.specs.Receive.{answerOctets, receiveAnswer, reactionTo, receiveCalled, receiveWritten}
+use Rattle.headend_steps.proofs.ListingLaws.{ListingIn}
+use Rattle.headend_steps.proofs.AnswerFields.{reject-fits, invalid-fits, key-reject-fits, reply-fits, key-reply-fits}
+use Rattle.headend_steps.proofs.AnswerFits.{by-key-answer, reaction-writable}
+
+-- What is read of an answer
+abbrev pub readBack : Fields → List ℕ → Reading
+readBack f key = record { answer = Done; fields = f; key = keyPlace f key; digest = digestPlace f key noDigest }
+
+to-modem : (c : ℕ) → 4 ≤ c → c ≤ 12 → receives Modem c ≡ true → receiverOf c ≡ Modem
+unfolding receives receiverOf
+to-modem = by-code (λ c. receives Modem c ≡ true → receiverOf c ≡ Modem) never (λ h. refl) (λ h. refl) never (λ h. refl) (λ h. refl) (λ h. refl) (λ h. refl) never
+
+-- Any fields within the limits, of a code that modems receive
+pub answer-read : (f : Fields) (key padding : List ℕ) → Shaped f → receives Modem (f .code) ≡ true → fieldsFit f ≡ true → authKeyFits f (length key) ≡ true
+    → readOf Modem (answerOctets f key ++ padding) ≡ readBack f key
+unfolding answerOctets
+answer-read f key padding shaped mine e k =
+    let t = fit f key e k in
+    let some : eqb (f .code) 0 ≡ false = ne-eqb (f .code) 0 (λ q. omega (arith, t .low)) in
+    let there : receiverOf (f .code) ≡ Modem = to-modem (f .code) (t .low) (t .high) mine in
+    rw some (rw there at (written-read f key noDigest padding shaped e k refl))
+
+-- ---- the arrays have their declared lengths
+pub error-shaped : (f : Fields) (code e : ℕ) → Shaped (errorAnswer code (f .identifier) (f .ak) (f .said) e)
+error-shaped f code e = record { descriptors = refl; older = record { tek = refl; vector = refl }; newer = record { tek = refl; vector = refl } }
+
+pub reject-shaped : (i e : ℕ) → Shaped (reject i e)
+reject-shaped i e = record { descriptors = refl; older = record { tek = refl; vector = refl }; newer = record { tek = refl; vector = refl } }
+
+pub invalid-shaped : (i e : ℕ) → Shaped (invalid i e)
+invalid-shaped i e = record { descriptors = refl; older = record { tek = refl; vector = refl }; newer = record { tek = refl; vector = refl } }
+
+pub reply-shaped : (clock i : ℕ) (l : Listing) (k : AuthKeys) → Shaped (replyAnswer clock i l k)
+reply-shaped clock i l k = record { descriptors = refl; older = record { tek = refl; vector = refl }; newer = record { tek = refl; vector = refl } }
+
+pub record ShapedRecord (a : Assoc) : Type 0 where
+  pub older-tek : length (a .older .tek) ≡ 16
+  pub older-vector : length (a .older .vector) ≡ 16
+  pub newer-tek : length (a .newer .tek) ≡ 16
+  pub newer-vector : length (a .newer .vector) ≡ 16
+
+pub key-reply-shaped : (clock : ℕ) (a : Assoc) (f : Fields) → ShapedRecord a → Shaped (keyReply clock a f)
+key-reply-shaped clock a f n =
+    record {
+      descriptors = refl;
+      older = record { tek = n .older-tek; vector = n .older-vector };
+      newer = record { tek = n .newer-tek; vector = n .newer-vector };
+    }
+
+-- ---- each answer
+module _ (key padding : List ℕ) where
+  pub reject-read : (i e : ℕ) → readOf Modem (answerOctets (reject i e) key ++ padding) ≡ readBack (reject i e) key
+  unfolding receives authKeyFits needs neededOf among
+  reject-read i e = answer-read (reject i e) key padding (reject-shaped i e) refl (reject-fits i e) refl
+
+  pub invalid-read : (i e : ℕ) → readOf Modem (answerOctets (invalid i e) key ++ padding) ≡ readBack (invalid i e) key
+  unfolding receives authKeyFits needs neededOf among
+  invalid-read i e = answer-read (invalid i e) key padding (invalid-shaped i e) refl (invalid-fits i e) refl
+
+  pub key-reject-read : (f : Fields) (e : ℕ) → f .ak .0 ≤ 15 → f .said ≤ 16383 → readOf Modem (answerOctets (keyReject f e) key ++ padding) ≡ readBack (keyReject f e) key
+  unfolding receives authKeyFits needs neededOf among
+  key-reject-read f e low small = answer-read (keyReject f e) key padding (error-shaped f 9 e) refl (key-reject-fits f e low small) refl
+
+  pub reply-read : (clock i : ℕ) (l : Listing) (k : AuthKeys) → 1 ≤ length key → length key ≤ 256 → ListingIn l
+      → 1 ≤ lifeLeft clock (k .newer) → lifeLeft clock (k .newer) ≤ 12096000
+      → readOf Modem (answerOctets (replyAnswer clock i l k) key ++ padding) ≡ readBack (replyAnswer clock i l k) key
+  unfolding receives authKeyFits needs neededOf among
+  reply-read clock i l k few many p low high =
+      answer-read (replyAnswer clock i l k) key padding (reply-shaped clock i l k) refl (reply-fits clock i l k p low high)
+      (rw (le-leb 1 (length key) few, le-leb (length key) 256 many))
+
+  pub key-reply-read : (half clock : ℕ) (a : Assoc) (f : Fields) → ShapedRecord a → InLimits half clock a → 1 ≤ half → half ≤ 302400
+      → f .ak .0 ≤ 15 → f .said ≤ 16383
+      → readOf Modem (answerOctets (keyReply clock a f) key ++ padding) ≡ readBack (keyReply clock a f) key
+  unfolding receives authKeyFits needs neededOf among
+  key-reply-read half clock a f n i some most low small =
+      answer-read (keyReply clock a f) key padding (key-reply-shaped clock a f n) refl (key-reply-fits half clock a i some most f low small) refl
+
+-- ---- the answer to a message that is taken
+pub record Sendable (f : Fields) : Type 0 where
+  pub shaped : Shaped f
+  pub mine : eqb (f .code) 0 ≡ false → receives Modem (f .code) ≡ true
+
+reject-sends : (i e : ℕ) → Sendable (reject i e)
+unfolding receives
+reject-sends i e = record { shaped = reject-shaped i e; mine = λ q. refl }
+
+invalid-sends : (i e : ℕ) → Sendable (invalid i e)
+unfolding receives
+invalid-sends i e = record { shaped = invalid-shaped i e; mine = λ q. refl }
+
+key-reject-sends : (f : Fields) (e : ℕ) → Sendable (keyReject f e)
+unfolding receives
+key-reject-sends f e = record { shaped = error-shaped f 9 e; mine = λ q. refl }
+
+reply-sends : (clock i : ℕ) (l : Listing) (k : AuthKeys) → Sendable (replyAnswer clock i l k)
+unfolding receives
+reply-sends clock i l k = record { shaped = reply-shaped clock i l k; mine = λ q. refl }
+
+key-reply-sends : (clock : ℕ) (a : Assoc) (f : Fields) → ShapedRecord a → Sendable (keyReply clock a f)
+unfolding receives
+key-reply-sends clock a f n = record { shaped = key-reply-shaped clock a f n; mine = λ q. refl }
+
+none-sends : Sendable noFields
+none-sends =
+    record {
+      shaped = record { descriptors = refl; older = record { tek = refl; vector = refl }; newer = record { tek = refl; vector = refl } };
+      mine = λ q. let z : _≡_ {A = ℕ} 0 1 = cc in absurd (omega arith);
+    }
+
+module _ (h : HeadEnd) (k : Known) (a : Assoc) (digest : Bool) (f : Fields) (n : ShapedRecord a) where
+  request-sends : Sendable (requestAnswer h k (f .identifier))
+  unfolding requestAnswer
+  request-sends = go (k .«is_listed») (eqb (k .entry .allowed) 0)
+    where
+      go : (x y : Bool)
+          → Sendable (cond (not x) (reject (f .identifier) 1) (cond y (reject (f .identifier) 6) (replyAnswer (h .clock) (f .identifier) (k .entry .listing) (keysAfter h (k .entry)))))
+      go false y = reject-sends (f .identifier) 1
+      go true true = reject-sends (f .identifier) 6
+      go true false = reply-sends (h .clock) (f .identifier) (k .entry .listing) (keysAfter h (k .entry))
+
+  key-sends : Sendable (keyAnswer (h .clock) k a digest f)
+  key-sends =
+      by-key-answer (h .clock) k a digest f Sendable
+      (invalid-sends (f .identifier) 1)
+      (λ e₁. invalid-sends (f .identifier) 4)
+      (λ e₁ e₂. invalid-sends (f .identifier) 5)
+      (λ e₁ e₂. key-reject-sends f 2)
+      (λ w. key-reply-sends (h .clock) a f n)
+
+  pub reaction-sends : Sendable (reactionOf h k a digest f .answer)
+  unfolding reactionOf
+  reaction-sends = go (eqb (f .code) 4) (eqb (f .code) 7)
+    where
+      go : (x y : Bool)
+          → Sendable (cond x (requestReaction h k (f .identifier)) (cond y (record { state = h; answer = keyAnswer (h .clock) k a digest f }) (record { state = h; answer = noFields })) .answer)
+      go true y = request-sends
+      go false true = key-sends
+      go false false = none-sends
+
+module _ (h : HeadEnd) (bad len : ℕ) (s : Found) (address : ℕ) (digest : Bool) (r : Reading) (key : List ℕ) (lent : ℕ)
+    (done : receiveAnswer h bad len s address digest r (length key) lent ≡ Done) where
+  -- what the call writes
+  pub written-is : receiveWritten h bad len s address digest r key lent ≡ answerOctets (reactionTo h s address digest r .answer) key
+  unfolding receiveWritten
+  written-is = rw done
+
+  pub called-is : receiveCalled h bad len s address digest r key lent
+      ≡ record { answer = Done; state = reactionTo h s address digest r .state; count = length (answerOctets (reactionTo h s address digest r .answer) key) }
+  unfolding receiveCalled
+  called-is = rw done
+
+  -- Where there is an answer, the modem reads its fields
+  pub reaction-read : (padding : List ℕ) → ShapedRecord (s .held)
+      → eqb (reactionTo h s address digest r .answer .code) 0 ≡ false
+      → readOf Modem (receiveWritten h bad len s address digest r key lent ++ padding) ≡ readBack (reactionTo h s address digest r .answer) key
+  reaction-read padding n some =
+      let f = reactionTo h s address digest r .answer in
+      let w = reaction-writable h bad len s address digest r key lent done in
+      let t = reaction-sends h (knownOf h address) (s .held) digest (r .fields) n in
+      rw written-is (answer-read f key padding (t .shaped) (t .mine some) (w .fields some) (w .auth-key))

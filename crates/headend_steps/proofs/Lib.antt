@@ -1,0 +1,11 @@
+pub mod EntriesLaws
+pub mod AuthorizationLaws
+pub mod ListingLaws
+pub mod LimitsLaws
+pub mod AskedLaws
+pub mod AnswersLaws
+pub mod ReadingLaws
+pub mod AnswerFields
+pub mod AnswerFits
+pub mod AnswersRead
+pub mod PutLaws

@@ -1,0 +1,87 @@
+-- A message at the head-end: its questions, and what is done where all are met (document 01, "Head-end answers" and questions 1, 2, 6 to 9, 11).
+use mathlib.Core.Path.{_≡_}
+use mathlib.Core.Bool.{Bool, true, false, cond, _&&_, _||_, not}
+use mathlib.Core.List.{List, [], _∷_}
+use Prim.Native.Nat.{ℕ, _≤_}
+use lib.Dec.{leb, ltb, eqb}
+use lib.ListN.{length}
+use Rattle.keys.specs.declared.refusal.Answer.{Answer}
+use Rattle.keys.specs.declared.refusal.Answer.the-variants.{Done, Refused}
+use Rattle.keys.specs.declared.refusal.Refusal.the-variants.{OutOfLimits, WrongLength, WrongIdentifier}
+use Rattle.keys.specs.Questions.{Question, firstThen}
+use Rattle.association.specs.declared.search.Found.{Found}
+use Rattle.association.specs.Record.{saidFits, recordFits}
+use Rattle.wire.specs.declared.fields.Fields.{Fields}
+use Rattle.wire.specs.declared.fields.Reading.{Reading}
+use Rattle.wire.specs.Limits.{fieldsFit, authKeyFits}
+use Rattle.wire.specs.Writing.{messageOf, noDigest}
+use Rattle.headend_steps.specs.declared.state.HeadEnd.{HeadEnd}
+use Rattle.headend_steps.specs.declared.state.Called.{Called}
+use Rattle.headend_steps.specs.declared.entries.Known.{Known}
+use Rattle.headend_steps.specs.declared.answers.Reaction.{Reaction}
+use Rattle.headend_steps.specs.State.{answeredCall}
+use Rattle.headend_steps.specs.Entries.{knownOf, listsSuite}
+use Rattle.headend_steps.specs.Limits.{addressFits, headFits}
+use Rattle.headend_steps.specs.Search.{halfIn}
+use Rattle.headend_steps.specs.Answers.{keyAnswer, reactionOf}
+
+-- ---- questions
+
+-- Where a Key Request gets a Key Reply, and all records in use are lent: the SAID's record is one of them, within its limits, with
+-- the suite that the modem's entry names
+unfoldable pub recordSuits : HeadEnd → ℕ → Found → Known → Bool → Fields → Bool
+recordSuits h len s k digest f =
+    not (eqb (f .code) 7 && eqb (keyAnswer (h .clock) k (s .held) digest f .code) 8)
+    || ltb len (h .used)
+    || (ltb (s .at) (h .used) && recordFits (halfIn h) (h .clock) (s .held) && listsSuite (k .entry .listing) (f .said) (s .held .suite))
+
+-- 11: message 12 carries 0
+unfoldable pub identifierFits : Fields → Bool
+identifierFits f = not (eqb (f .code) 12) || eqb (f .identifier) 0
+
+-- With `bad` the place of the first record out of its limits, `len` records lent, `s` what was found for the SAID, and `r` the
+-- reading: 1 and 2, then 6 to 9 as the reader answers them, then 11. Of the fields to be written, question 1 asks the SAID: it is
+-- the request's own in a Key Reject; that the others are within the limits follows from the state, and the reader asks the SAID too
+unfoldable pub receiveAnswer : HeadEnd → ℕ → ℕ → Found → ℕ → Bool → Reading → ℕ → ℕ → Answer
+receiveAnswer h bad len s address digest r key lent =
+    firstThen
+    (record {
+      refusal = OutOfLimits;
+      met = headFits h && leb (h .used) bad && addressFits address && saidFits (r .fields .said) && recordSuits h len s (knownOf h address) digest (r .fields);
+    }
+    ∷ record { refusal = WrongLength; met = leb 342 lent && leb 1 key && leb key 256 && leb (h .used) len }
+    ∷ [])
+    (r .answer)
+    (record { refusal = WrongIdentifier; met = identifierFits (r .fields) } ∷ [])
+
+-- ---- what is done
+
+-- The octets of an answer; none where the code is 0
+unfoldable pub answerOctets : Fields → List ℕ → List ℕ
+answerOctets f key = cond (eqb (f .code) 0) [] (messageOf f key noDigest)
+
+abbrev pub calledFor : Answer → HeadEnd → Reaction → List ℕ → Called
+calledFor Done h w key = record { answer = Done; state = w .state; count = length (answerOctets (w .answer) key) }
+calledFor (Refused r) h w key = answeredCall (Refused r) h
+
+abbrev pub writtenFor : Answer → Reaction → List ℕ → List ℕ
+writtenFor Done w key = answerOctets (w .answer) key
+writtenFor (Refused r) w key = []
+
+abbrev pub reactionTo : HeadEnd → Found → ℕ → Bool → Reading → Reaction
+reactionTo h s address digest r = reactionOf h (knownOf h address) (s .held) digest (r .fields)
+
+-- What the call hands back, and what it writes at the front of the lent slice
+unfoldable pub receiveCalled : HeadEnd → ℕ → ℕ → Found → ℕ → Bool → Reading → List ℕ → ℕ → Called
+receiveCalled h bad len s address digest r key lent =
+    calledFor (receiveAnswer h bad len s address digest r (length key) lent) h (reactionTo h s address digest r) key
+
+unfoldable pub receiveWritten : HeadEnd → ℕ → ℕ → Found → ℕ → Bool → Reading → List ℕ → ℕ → List ℕ
+receiveWritten h bad len s address digest r key lent =
+    writtenFor (receiveAnswer h bad len s address digest r (length key) lent) (reactionTo h s address digest r) key
+
+-- What writing an answer asks; `AnswerFits` shows that an answer to a message that is taken has it
+pub record Writable (f : Fields) (key : List ℕ) (lent : ℕ) : Type 0 where
+  pub fields : eqb (f .code) 0 ≡ false → fieldsFit f ≡ true
+  pub auth-key : authKeyFits f (length key) ≡ true
+  pub short : eqb (f .code) 0 ≡ false → length (messageOf f key noDigest) ≤ lent

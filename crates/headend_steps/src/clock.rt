@@ -1,0 +1,45 @@
+// The head-end's clock: what is asked, and the head-end after it.
+ghost use mathlib.Core.Path.{_≡_};
+ghost use Rattle.headend_steps.specs.State.{withClock};
+ghost use Rattle.headend_steps.specs.Clock.{clockAnswer, clockCalled};
+use crate::limits::head_fits;
+use crate::listing::is_material;
+use crate::state::Called;
+use crate::state::HeadEnd;
+use crate::state::answered;
+use keys::refusal::Answer;
+use keys::refusal::Refusal;
+use keys::refusal::ask;
+use keys::refusal::is_done;
+
+// Questions 1, 2 and 3. `bad` is the place of the first record out of its limits, `len` the number of records lent.
+fn clock_answer(h: HeadEnd, t: u64, bad: usize, len: usize, octets: usize) -> Answer
+    ensures { λ r. ⌜ r ≡ clockAnswer h t bad len octets ⌝ }
+{
+    let used = h.used;
+    let q1 = head_fits(h) & (used <= bad);
+    let q2 = (used <= len) & is_material(octets, used);
+    let q3 = (h.clock <= t) & (t <= 1000000000000);
+    let a3 = ask(q3, Refusal::ClockOutOfOrder, Answer::Done);
+    let a2 = ask(q2, Refusal::WrongLength, a3);
+    ask(q1, Refusal::OutOfLimits, a2)
+}
+
+fn with_clock(h: HeadEnd, t: u64) -> HeadEnd
+    ensures { λ r. ⌜ r ≡ withClock h t ⌝ }
+{
+    let mut next = h;
+    next.clock = t;
+    next
+}
+
+pub fn clock_called(h: HeadEnd, t: u64, bad: usize, len: usize, octets: usize) -> Called
+    ensures { λ r. ⌜ r ≡ clockCalled h t bad len octets ⌝ }
+{
+    let a = clock_answer(h, t, bad, len, octets);
+    if !is_done(a) {
+        return answered(h, a);
+    }
+    let next = with_clock(h, t);
+    answered(next, a)
+}

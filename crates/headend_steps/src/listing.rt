@@ -1,0 +1,113 @@
+// Listing a modem: what is asked, and the head-end after it.
+ghost use mathlib.Core.Path.{_≡_};
+ghost use Prim.Native.Nat.{_+_, _*_, _<_, _≤_};
+ghost use lib.Dec.{leb, eqb};
+ghost use Rattle.headend_steps.specs.Listing.{listAnswer, grown, listCalled};
+use crate::limits::address_fits;
+use crate::limits::all_apart;
+use crate::limits::head_fits;
+use crate::limits::listing_fits;
+use crate::limits::saids_differ;
+use crate::state::AuthKeys;
+use crate::state::Called;
+use crate::state::Entry;
+use crate::state::HeadEnd;
+use crate::state::answered;
+use association::listing::Listing;
+use keys::numbers::AkNumber;
+use keys::refusal::Answer;
+use keys::refusal::Refusal;
+use keys::refusal::ask;
+use keys::refusal::is_done;
+
+// Whether `count` more than `used` are at most `limit`; the sum is not formed, so it cannot wrap.
+fn has_room(used: usize, count: usize, limit: usize) -> bool
+    ensures { λ r. ⌜ r ≡ leb (used + count) limit ⌝ }
+{
+    if limit < used {
+        return false;
+    }
+    count <= limit - used
+}
+
+// Whether there are 64 octets of material for each of `count` SAIDs, and no more.
+pub fn is_material(octets: usize, count: usize) -> bool
+    ensures { λ r. ⌜ r ≡ eqb octets (count * 64) ⌝ }
+{
+    (octets % 64 == 0) & (octets / 64 == count)
+}
+
+// Questions 1, 2, 4 and 5 of a listing. `bad` is the place of the first record out of its limits, `clash` of the first that has one of
+// the SAIDs, `len` the number of records lent.
+fn list_answer(
+    h: HeadEnd,
+    address: u64,
+    allowed: u8,
+    l: Listing,
+    bad: usize,
+    clash: usize,
+    len: usize,
+    octets: usize,
+) -> Answer
+    ensures { λ r. ⌜ r ≡ listAnswer h address allowed l bad clash len octets ⌝ }
+{
+    let entries = h.entries;
+    let count = l.count;
+    let used = h.used;
+    let q1 = head_fits(h)
+        & (used <= bad)
+        & address_fits(address)
+        & (allowed <= 1)
+        & listing_fits(l);
+    let q2 = (used <= len) & is_material(octets, count);
+    let q4 = (h.modems < 16) & has_room(used, count, 64) & has_room(used, count, len);
+    let q5 = all_apart(entries, h.modems, address, l) & (used <= clash) & saids_differ(l);
+    let a5 = ask(q5, Refusal::NotNew, Answer::Done);
+    let a4 = ask(q4, Refusal::NoFreePlace, a5);
+    let a2 = ask(q2, Refusal::WrongLength, a4);
+    ask(q1, Refusal::OutOfLimits, a2)
+}
+
+// The head-end with one more entry, its records counted.
+fn grown(h: HeadEnd, address: u64, allowed: u8, l: Listing) -> HeadEnd
+    requires { ⌜ (h .modems < 16) × (h .used + l .count ≤ 64) ⌝ }
+    ensures { λ r. ⌜ r ≡ grown h address allowed l ⌝ }
+{
+    let at = h.modems;
+    let keys = AuthKeys {
+        next: AkNumber(0),
+        older: 0,
+        newer: 0,
+    };
+    let e = Entry {
+        address: address,
+        allowed: allowed,
+        listing: l,
+        keys: keys,
+    };
+    let mut next = h;
+    next.entries[at] = e;
+    next.modems = at + 1;
+    next.used = h.used + l.count;
+    next
+}
+
+pub fn list_called(
+    h: HeadEnd,
+    address: u64,
+    allowed: u8,
+    l: Listing,
+    bad: usize,
+    clash: usize,
+    len: usize,
+    octets: usize,
+) -> Called
+    ensures { λ r. ⌜ r ≡ listCalled h address allowed l bad clash len octets ⌝ }
+{
+    let a = list_answer(h, address, allowed, l, bad, clash, len, octets);
+    if !is_done(a) {
+        return answered(h, a);
+    }
+    let next = grown(h, address, allowed, l);
+    answered(next, a)
+}

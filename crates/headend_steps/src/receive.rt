@@ -1,0 +1,135 @@
+// A message from a modem: what is asked, and the answer written.
+ghost use mathlib.Core.Path.{_≡_};
+ghost use lib.ListN.{length};
+ghost use Rattle.keys.specs.Octets.{overlay};
+ghost use Rattle.wire.specs.declared.fields.Receiver.the-variants.{HeadEnd as AtHeadEnd};
+ghost use Rattle.wire.specs.Reading.{readOf};
+ghost use Rattle.headend_steps.specs.Receive.{recordSuits, identifierFits, receiveAnswer, answerOctets, Writable, receiveCalled, receiveWritten};
+use crate::answers::key_answer;
+use crate::answers::react;
+use crate::entries::Known;
+use crate::entries::entry_of;
+use crate::entries::is_listing_suite;
+use crate::limits::address_fits;
+use crate::limits::head_fits;
+use crate::search::half_in;
+use crate::state::Called;
+use crate::state::HeadEnd;
+use crate::state::answered;
+use association::record::record_fits;
+use association::record::said_fits;
+use association::search::Found;
+use keys::refusal::Answer;
+use keys::refusal::Refusal;
+use keys::refusal::and_then;
+use keys::refusal::ask;
+use keys::refusal::is_done;
+use reader::read::read;
+use wire::fields::Fields;
+use wire::fields::Reading;
+use wire::fields::Receiver;
+use writer::write::write;
+
+// Questions 6 to 9 at the head-end, and the fields.
+pub fn read_request(message: &[u8]) -> Reading
+    ensures { λ r. ⌜ r ≡ readOf AtHeadEnd (now (message .entry)) ⌝ }
+{
+    read(Receiver::HeadEnd, message)
+}
+
+// Question 1 of the record that a Key Reply is made from: it is there, within its limits, and has the suite that the entry names.
+fn record_suits(h: HeadEnd, len: usize, s: Found, k: Known, digest: bool, f: Fields) -> bool
+    ensures { λ r. ⌜ r ≡ recordSuits h len s k digest f ⌝ }
+{
+    let a = s.held;
+    let e = k.entry;
+    let l = e.listing;
+    let answer = key_answer(h.clock, k, a, digest, f);
+    !((f.code == 7) & (answer.code == 8))
+        | (len < h.used)
+        | ((s.at < h.used)
+            & record_fits(a, half_in(h), h.clock)
+            & is_listing_suite(l, f.said, a.suite))
+}
+
+// Question 11: Authentication Information has Identifier 0.
+fn identifier_fits(f: Fields) -> bool
+    ensures { λ r. ⌜ r ≡ identifierFits f ⌝ }
+{
+    !(f.code == 12) | (f.identifier == 0)
+}
+
+// All questions of the call. `bad` is the place of the first record out of its limits, `len` the number of records lent, `s` what was
+// found for the SAID, `r` the reading, and the last two are the lengths of the AUTH-Key and of the lent slice.
+fn receive_answer(
+    h: HeadEnd,
+    bad: usize,
+    len: usize,
+    s: Found,
+    address: u64,
+    digest: bool,
+    r: Reading,
+    key: usize,
+    lent: usize,
+) -> Answer
+    ensures { λ a. ⌜ a ≡ receiveAnswer h bad len s address digest r key lent ⌝ }
+{
+    let f = r.fields;
+    let k = entry_of(h, address);
+    let q1 = head_fits(h)
+        & (h.used <= bad)
+        & address_fits(address)
+        & said_fits(f.said)
+        & record_suits(h, len, s, k, digest, f);
+    let q2 = (342 <= lent) & (1 <= key) & (key <= 256) & (h.used <= len);
+    let a2 = ask(q2, Refusal::WrongLength, Answer::Done);
+    let first = ask(q1, Refusal::OutOfLimits, a2);
+    let read = r.answer;
+    let last = ask(identifier_fits(f), Refusal::WrongIdentifier, Answer::Done);
+    and_then(first, and_then(read, last))
+}
+
+// Writes an answer, where there is one; how many octets is handed back.
+fn put_answer(f: Fields, key: &[u8], out: &mut [u8]) -> usize
+    requires { ⌜ Writable f (now key) (length (now out)) ⌝ }
+    ensures { λ n. ⌜ (n ≡ length (answerOctets f (now (key .entry)))) × (now (out .exit) ≡ overlay (now (out .entry)) (answerOctets f (now (key .entry)))) ⌝ }
+{
+    if f.code == 0 {
+        return 0;
+    }
+    let w = write(f, key, out);
+    w.count
+}
+
+// The call, with what the searches over the records found.
+pub fn receive_called(
+    h: HeadEnd,
+    bad: usize,
+    len: usize,
+    s: Found,
+    address: u64,
+    digest: bool,
+    r: Reading,
+    key: &[u8],
+    out: &mut [u8],
+) -> Called
+    ensures { λ c. ⌜ (c ≡ receiveCalled h bad len s address digest r (now (key .entry)) (length (now (out .entry))))
+        × (now (out .exit) ≡ overlay (now (out .entry)) (receiveWritten h bad len s address digest r (now (key .entry)) (length (now (out .entry))))) ⌝ }
+{
+    let a = receive_answer(h, bad, len, s, address, digest, r, key.len(), out.len());
+    if !is_done(a) {
+        return answered(h, a);
+    }
+    let f = r.fields;
+    let k = entry_of(h, address);
+    let record = s.held;
+    let w = react(h, k, record, digest, f);
+    let answer = w.answer;
+    let next = w.state;
+    let n = put_answer(answer, key, out);
+    Called {
+        answer: a,
+        state: next,
+        count: n,
+    }
+}

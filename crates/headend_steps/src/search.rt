@@ -1,0 +1,40 @@
+// What the calls look for in the lent records.
+ghost use mathlib.Core.Path.{_≡_};
+ghost use Rattle.headend_steps.specs.Search.{halfIn, outOfLimits, oneOf, ofRequest};
+use crate::state::HeadEnd;
+use association::listing::Listing;
+use association::search::Probe;
+use keys::settings::half;
+use wire::fields::Reading;
+
+// H, by the head-end's settings.
+pub fn half_in(h: HeadEnd) -> u64
+    ensures { λ r. ⌜ r ≡ halfIn h ⌝ }
+{
+    let settings = h.settings;
+    let tek = settings.tek;
+    half(tek)
+}
+
+// A record out of its limits at the head-end's clock.
+pub fn out_of_limits(h: HeadEnd) -> Probe
+    ensures { λ r. ⌜ r ≡ outOfLimits h ⌝ }
+{
+    Probe::OutOfLimits(half_in(h), h.clock)
+}
+
+// A record of one of a listing's SAIDs.
+pub fn one_of(l: Listing) -> Probe
+    ensures { λ r. ⌜ r ≡ oneOf l ⌝ }
+{
+    let s = l.saids;
+    Probe::OfOneOf(l.count, s[0], s[1], s[2], s[3])
+}
+
+// The record of the SAID that a message carries.
+pub fn of_request(r: Reading) -> Probe
+    ensures { λ p. ⌜ p ≡ ofRequest r ⌝ }
+{
+    let f = r.fields;
+    Probe::OfSaid(f.said)
+}
