@@ -6,8 +6,11 @@ use Rattle.modem.proofs.messages.request_fields.Tie as tie
 no-params-requires : tie.Need-no-params-requires
 no-params-requires c κs = search needs
 
+no-descriptors-requires : tie.Need-no-descriptors-requires
+no-descriptors-requires c κs = search needs
+
 returns : tie.Need-returns
 returns c = cc
 
 pub request-fields-spec : {M : Type 1} → statement M
-request-fields-spec = tie.close (tie.spec no-params-requires returns)
+request-fields-spec = tie.close (tie.spec no-params-requires no-descriptors-requires returns)
