@@ -1,1 +1,9 @@
 pub mod CallsLaws
+pub mod WithinLaws
+pub mod EntriesKept
+pub mod RecordsKept
+pub mod KeptLimits
+pub mod Refused
+pub mod AnswersSent
+pub mod AnswerCases
+pub mod KnownAfter

@@ -7,3 +7,4 @@ pub mod Listing
 pub mod Clock
 pub mod Answers
 pub mod Receive
+pub mod Frames

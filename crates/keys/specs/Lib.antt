@@ -8,3 +8,4 @@ pub mod Refusal
 pub mod Questions
 pub mod Frame
 pub mod Put
+pub mod Sealing

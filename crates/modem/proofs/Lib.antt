@@ -14,3 +14,5 @@ pub mod KeptReply
 pub mod KeptMessages
 pub mod CallLaws
 pub mod ModemRows
+pub mod PairSteps
+pub mod PairLaws

@@ -1,0 +1,43 @@
+-- What sealing and opening a frame give, and the count of frames (document 01, "Traffic keys at the head-end" and "The questions, in order").
+use mathlib.Core.Bool.{Bool, cond}
+use mathlib.Core.List.{List, []}
+use Prim.Native.Nat.{ℕ, _+_}
+use lib.Dec.{leb}
+use lib.ListN.{take}
+use Rattle.keys.specs.declared.numbers.TekNumber.{TekNumber}
+use Rattle.keys.specs.declared.traffic.TrafficKey.{TrafficKey}
+use Rattle.keys.specs.declared.frame.Opening.{Opening}
+use Rattle.keys.specs.declared.frame.Opening.the-variants.{ByOlder, ByNewer, ByNeither}
+use Rattle.keys.specs.declared.refusal.Answer.{Answer}
+use Rattle.keys.specs.declared.refusal.Answer.the-variants.{Done, Refused}
+
+-- The octets of a key that go to the front of the two lent slices: as many as the suite's width
+pub record KeyOut : Type 0 where
+  pub tek : List ℕ
+  pub vector : List ℕ
+
+abbrev pub noOut : KeyOut
+noOut = record { tek = []; vector = [] }
+
+abbrev pub keyOut : ℕ → TrafficKey → KeyOut
+keyOut w k = record { tek = take w (k .tek); vector = take w (k .vector) }
+
+-- Sealing gives the key's number and octets; a refusal gives neither
+pub record Sealed : Type 0 where
+  pub answer : Answer
+  pub number : TekNumber
+  pub out : KeyOut
+
+abbrev pub sealedFor : Answer → ℕ → TrafficKey → Sealed
+sealedFor Done w k = record { answer = Done; number = k .number; out = keyOut w k }
+sealedFor (Refused r) w k = record { answer = Refused r; number = record { 0 = 0 }; out = noOut }
+
+-- Opening gives the octets of whichever held key opens the frame
+abbrev pub openedBy : Opening → ℕ → TrafficKey → TrafficKey → KeyOut
+openedBy ByOlder w older newer = keyOut w older
+openedBy ByNewer w older newer = keyOut w newer
+openedBy ByNeither w older newer = noOut
+
+-- One more frame, up to 2^64 - 1
+unfoldable pub oneMore : ℕ → ℕ
+oneMore n = cond (leb 18446744073709551615 n) n (n + 1)

@@ -1,0 +1,90 @@
+-- The keys made of each SAID beside the line of its last two: how they go on with a listing and with the clock.
+use mathlib.Core.Path.{_≡_, refl, sym, _∙_, ap, subst}
+use mathlib.Core.Logic.{_⊎_, inl, inr}
+use mathlib.Core.List.{List, [], _∷_, _++_, map, List·Memᴰ, List·Memᴰ·head, List·Memᴰ·tail, Memᴰ·append-left}
+use Prim.Native.Nat.{ℕ, _+_, _*_}
+use lib.ListN.{length}
+use Rattle.keys.proofs.ListLaws.{Each, each-nil, each-cons}
+use Rattle.association.specs.Made.{Made, SaidSuite, Line, listedLine, listedLines, mints, mintsBy, pushedAll, lineTo, linesTo}
+use Rattle.association.proofs.MadeLaws.{Follows, listed-follows, mints-follow}
+
+pub record Log : Type 0 where
+  pub line : Line
+  pub made : List Made
+
+abbrev pub linesIn : List Log → List Line
+linesIn gs = map (λ (g : Log). g .line) gs
+
+-- ---- a listing, and the clock's rule
+abbrev pub logListed : ℕ → ℕ → List ℕ → ℕ → SaidSuite → Log
+logListed half t m at s =
+    record { line = listedLine half t m at s; made = listedLine half t m at s .older ∷ listedLine half t m at s .newer ∷ [] }
+
+abbrev pub logTo : ℕ → ℕ → List ℕ → ℕ → Log → Log
+logTo half t m at g = record { line = lineTo half t m at (g .line); made = g .made ++ mints half t m at (g .line) }
+
+abbrev pub logsListed : ℕ → ℕ → List ℕ → ℕ → List SaidSuite → List Log
+logsListed half t m at [] = []
+logsListed half t m at (s ∷ ss) = logListed half t m at s ∷ logsListed half t m (at + 64) ss
+
+abbrev pub logsTo : ℕ → ℕ → List ℕ → ℕ → List Log → List Log
+logsTo half t m at [] = []
+logsTo half t m at (g ∷ gs) = logTo half t m at g ∷ logsTo half t m (at + 64) gs
+
+module _ (half t : ℕ) (m : List ℕ) where
+  pub lines-listed : (at : ℕ) (ss : List SaidSuite) → linesIn (logsListed half t m at ss) ≡ listedLines half t m at ss
+  lines-listed at [] = refl
+  lines-listed at (s ∷ ss) = ap (λ (ls : List Line). listedLine half t m at s ∷ ls) (lines-listed (at + 64) ss)
+
+  pub lines-to : (at : ℕ) (gs : List Log) → linesIn (logsTo half t m at gs) ≡ linesTo half t m at (linesIn gs)
+  lines-to at [] = refl
+  lines-to at (g ∷ gs) = ap (λ (ls : List Line). lineTo half t m at (g .line) ∷ ls) (lines-to (at + 64) gs)
+
+  -- ---- each goes on as the keys of one SAID do
+  pub listed-good : (at : ℕ) (ss : List SaidSuite) → Each (λ (g : Log). Follows half (g .made) (g .line)) (logsListed half t m at ss)
+  listed-good at [] = each-nil _
+  listed-good at (s ∷ ss) = each-cons (λ (g : Log). Follows half (g .made) (g .line)) (listed-follows half t m at s) (listed-good (at + 64) ss)
+
+  pub to-good : (at : ℕ) (gs : List Log) → Each (λ (g : Log). Follows half (g .made) (g .line)) gs → Each (λ (g : Log). Follows half (g .made) (g .line)) (logsTo half t m at gs)
+  to-good at [] good = each-nil _
+  to-good at (g ∷ gs) good =
+      each-cons (λ (x : Log). Follows half (x .made) (x .line)) (mints-follow half t m at (g .made) (g .line) (good g (List·Memᴰ·head refl)))
+      (to-good (at + 64) gs (λ x i. good x (List·Memᴰ·tail i)))
+
+-- ---- a key made of a SAID, and that it stays one
+pub record MadeIn (gs : List Log) (said : ℕ) (k : Made) : Type 0 where
+  pub log : Log
+  pub there : List·Memᴰ log gs
+  pub same : log .line .said ≡ said
+  pub made : List·Memᴰ k (log .made)
+
+mem-right : {A : Type 0} (xs : List A) {ys : List A} {x : A} → List·Memᴰ x ys → List·Memᴰ x (xs ++ ys)
+mem-right [] i = i
+mem-right (y ∷ xs) i = List·Memᴰ·tail (mem-right xs i)
+
+pub made-listed : (gs hs : List Log) (said : ℕ) (k : Made) → MadeIn gs said k → MadeIn (gs ++ hs) said k
+made-listed gs hs said k i = record { log = i .log; there = Memᴰ·append-left hs (i .there); same = i .same; made = i .made }
+
+module _ (half t : ℕ) (m : List ℕ) where
+  said-stays : (l : Line) (ks : List Made) → pushedAll l ks .said ≡ l .said
+  said-stays l [] = refl
+  said-stays l (k ∷ ks) = said-stays (record { said = l .said; suite = l .suite; older = l .newer; newer = k }) ks
+
+  pub to-said : (at : ℕ) (g : Log) → logTo half t m at g .line .said ≡ g .line .said
+  to-said at g = said-stays (g .line) (mints half t m at (g .line))
+
+  pub made-clocked : (at : ℕ) (gs : List Log) (said : ℕ) (k : Made) → MadeIn gs said k → MadeIn (logsTo half t m at gs) said k
+  made-clocked at gs said k i = go at gs (i .log) (i .there) (i .same) (i .made)
+    where
+      go : (at : ℕ) (gs : List Log) (g : Log) → List·Memᴰ g gs → g .line .said ≡ said → List·Memᴰ k (g .made) → MadeIn (logsTo half t m at gs) said k
+      go at [] g () e j
+      go at (x ∷ gs) g (List·Memᴰ·head q) e j =
+          record {
+            log = logTo half t m at x;
+            there = List·Memᴰ·head refl;
+            same = to-said at x ∙ ap (λ (y : Log). y .line .said) (sym q) ∙ e;
+            made = Memᴰ·append-left (mints half t m at (x .line)) (subst (λ (y : Log). List·Memᴰ k (y .made)) q j);
+          }
+      go at (x ∷ gs) g (List·Memᴰ·tail q) e j =
+          let later = go (at + 64) gs g q e j in
+          record { log = later .log; there = List·Memᴰ·tail (later .there); same = later .same; made = later .made }
