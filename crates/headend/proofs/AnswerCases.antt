@@ -33,14 +33,14 @@ use Rattle.headend.proofs.AnswersSent.{request, found, reaction, Takes,
 
 -- ---- the record that a search finds
 module _ (p : Probe) (xs : List Assoc) where
-  looked-at : lookupOf p xs .at ≡ firstOf p xs
+  pub looked-at : lookupOf p xs .at ≡ firstOf p xs
   looked-at = go (ltb (firstOf p xs) (length xs))
     where
       go : (t : Bool) → cond t (foundAt (firstOf p xs) (getD xs (firstOf p xs) none)) (missedAt (firstOf p xs)) .at ≡ firstOf p xs
       go true = refl
       go false = refl
 
-  looked-held : firstOf p xs < length xs → lookupOf p xs .held ≡ getD xs (firstOf p xs) none
+  pub looked-held : firstOf p xs < length xs → lookupOf p xs .held ≡ getD xs (firstOf p xs) none
   looked-held small = rw (lt-ltb (firstOf p xs) (length xs) small)
 
 -- ---- what is said of a reply

@@ -7,3 +7,13 @@ pub mod Refused
 pub mod AnswersSent
 pub mod AnswerCases
 pub mod KnownAfter
+pub mod StateLaws
+pub mod MintLaws
+pub mod FoundLaws
+pub mod ReplyLaws
+pub mod RunLaws
+pub mod RunShows
+pub mod SameSecond
+pub mod SameSecondRow
+pub mod FrameLaws
+pub mod FrameAnswers

@@ -2,16 +2,24 @@
 use mathlib.Core.Path.{_≡_}
 use mathlib.Core.Bool.{true}
 use mathlib.Core.List.{List}
-use Prim.Native.Nat.{_≤_}
-use lib.ListN.{length}
+use Prim.Native.Nat.{ℕ, _≤_, _<_}
+use lib.ListN.{length, getD}
 use Rattle.association.specs.declared.record.Assoc.{Assoc}
-use Rattle.records.specs.Records.{firstOf}
+use Rattle.association.specs.declared.search.Probe.the-variants.{OfSaid}
+use Rattle.records.specs.Records.{none, firstOf}
 use Rattle.headend_steps.specs.declared.state.HeadEnd.{HeadEnd}
+use Rattle.headend_steps.specs.Entries.{knownOf, listsSuite}
 use Rattle.headend_steps.specs.Limits.{headFits}
 use Rattle.headend_steps.specs.Search.{outOfLimits}
+use Rattle.headend_steps.specs.Frames.{isOwn}
 
 -- The state is within its limits, no record in use is out of them, and all records in use are lent
 pub record Within (h : HeadEnd) (xs : List Assoc) : Type 0 where
   pub fits : headFits h ≡ true
   pub records : h .used ≤ firstOf (outOfLimits h) xs
   pub lent : h .used ≤ length xs
+
+-- A SAID that an entry lists has a record in use, with that suite
+pub record Recorded (h : HeadEnd) (xs : List Assoc) : Type 0 where
+  pub each : (address said : ℕ) → isOwn (knownOf h address) said ≡ true
+      → (firstOf (OfSaid said) xs < h .used) × (listsSuite (knownOf h address .entry .listing) said (getD xs (firstOf (OfSaid said) xs) none .suite) ≡ true)

@@ -16,3 +16,5 @@ pub mod CallLaws
 pub mod ModemRows
 pub mod PairSteps
 pub mod PairLaws
+pub mod FrameLaws
+pub mod FrameKept

@@ -1,2 +1,6 @@
 pub mod LogLaws
 pub mod Meet
+pub mod Copies
+pub mod Agreement
+pub mod SaidLaws
+pub mod EntryLogs

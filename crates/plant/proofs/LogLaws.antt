@@ -1,11 +1,10 @@
 -- The keys made of each SAID beside the line of its last two: how they go on with a listing and with the clock.
 use mathlib.Core.Path.{_≡_, refl, sym, _∙_, ap, subst}
-use mathlib.Core.Logic.{_⊎_, inl, inr}
 use mathlib.Core.List.{List, [], _∷_, _++_, map, List·Memᴰ, List·Memᴰ·head, List·Memᴰ·tail, Memᴰ·append-left}
-use Prim.Native.Nat.{ℕ, _+_, _*_}
-use lib.ListN.{length}
+use Prim.Native.Nat.{ℕ, _+_}
+use Rattle.keys.specs.Suites.{widthOf}
 use Rattle.keys.proofs.ListLaws.{Each, each-nil, each-cons}
-use Rattle.association.specs.Made.{Made, SaidSuite, Line, listedLine, listedLines, mints, mintsBy, pushedAll, lineTo, linesTo}
+use Rattle.association.specs.Made.{Made, SaidSuite, Line, listedLine, listedLines, mints, pushedAll, lineTo, linesTo}
 use Rattle.association.proofs.MadeLaws.{Follows, listed-follows, mints-follow}
 
 pub record Log : Type 0 where
@@ -51,40 +50,54 @@ module _ (half t : ℕ) (m : List ℕ) where
       each-cons (λ (x : Log). Follows half (x .made) (x .line)) (mints-follow half t m at (g .made) (g .line) (good g (List·Memᴰ·head refl)))
       (to-good (at + 64) gs (λ x i. good x (List·Memᴰ·tail i)))
 
--- ---- a key made of a SAID, and that it stays one
-pub record MadeIn (gs : List Log) (said : ℕ) (k : Made) : Type 0 where
+-- ---- a key made of a SAID, whose suite has a width; and that it stays one
+pub record MadeIn (gs : List Log) (said wide : ℕ) (k : Made) : Type 0 where
   pub log : Log
   pub there : List·Memᴰ log gs
   pub same : log .line .said ≡ said
+  pub width : widthOf (log .line .suite) ≡ wide
   pub made : List·Memᴰ k (log .made)
 
-mem-right : {A : Type 0} (xs : List A) {ys : List A} {x : A} → List·Memᴰ x ys → List·Memᴰ x (xs ++ ys)
-mem-right [] i = i
-mem-right (y ∷ xs) i = List·Memᴰ·tail (mem-right xs i)
+-- What was made by one list of logs is made by another
+abbrev pub Grows : List Log → List Log → Type 0
+Grows gs hs = (said wide : ℕ) (k : Made) → MadeIn gs said wide k → MadeIn hs said wide k
 
-pub made-listed : (gs hs : List Log) (said : ℕ) (k : Made) → MadeIn gs said k → MadeIn (gs ++ hs) said k
-made-listed gs hs said k i = record { log = i .log; there = Memᴰ·append-left hs (i .there); same = i .same; made = i .made }
+pub grows-same : (gs : List Log) → Grows gs gs
+grows-same gs said wide k i = i
+
+pub grows-listed : (gs hs : List Log) → Grows gs (gs ++ hs)
+grows-listed gs hs said wide k i =
+    record { log = i .log; there = Memᴰ·append-left hs (i .there); same = i .same; width = i .width; made = i .made }
 
 module _ (half t : ℕ) (m : List ℕ) where
-  said-stays : (l : Line) (ks : List Made) → pushedAll l ks .said ≡ l .said
-  said-stays l [] = refl
-  said-stays l (k ∷ ks) = said-stays (record { said = l .said; suite = l .suite; older = l .newer; newer = k }) ks
+  stays : (l : Line) (ks : List Made) → (pushedAll l ks .said ≡ l .said) × (pushedAll l ks .suite ≡ l .suite)
+  stays l [] = (refl, refl)
+  stays l (k ∷ ks) = stays (record { said = l .said; suite = l .suite; older = l .newer; newer = k }) ks
 
   pub to-said : (at : ℕ) (g : Log) → logTo half t m at g .line .said ≡ g .line .said
-  to-said at g = said-stays (g .line) (mints half t m at (g .line))
+  to-said at g = stays (g .line) (mints half t m at (g .line)) .0
 
-  pub made-clocked : (at : ℕ) (gs : List Log) (said : ℕ) (k : Made) → MadeIn gs said k → MadeIn (logsTo half t m at gs) said k
-  made-clocked at gs said k i = go at gs (i .log) (i .there) (i .same) (i .made)
+  pub to-suite : (at : ℕ) (g : Log) → logTo half t m at g .line .suite ≡ g .line .suite
+  to-suite at g = stays (g .line) (mints half t m at (g .line)) .1
+
+  pub grows-clocked : (at : ℕ) (gs : List Log) → Grows gs (logsTo half t m at gs)
+  grows-clocked at gs said wide k i = go at gs (i .log) (i .there) (i .same) (i .width) (i .made)
     where
-      go : (at : ℕ) (gs : List Log) (g : Log) → List·Memᴰ g gs → g .line .said ≡ said → List·Memᴰ k (g .made) → MadeIn (logsTo half t m at gs) said k
-      go at [] g () e j
-      go at (x ∷ gs) g (List·Memᴰ·head q) e j =
+      go : (at : ℕ) (gs : List Log) (g : Log) → List·Memᴰ g gs → g .line .said ≡ said → widthOf (g .line .suite) ≡ wide → List·Memᴰ k (g .made)
+          → MadeIn (logsTo half t m at gs) said wide k
+      go at [] g q e f j = elim q [ ]
+      go at (x ∷ gs) g (List·Memᴰ·head q) e f j =
           record {
             log = logTo half t m at x;
             there = List·Memᴰ·head refl;
             same = to-said at x ∙ ap (λ (y : Log). y .line .said) (sym q) ∙ e;
+            width = ap widthOf (to-suite at x) ∙ ap (λ (y : Log). widthOf (y .line .suite)) (sym q) ∙ f;
             made = Memᴰ·append-left (mints half t m at (x .line)) (subst (λ (y : Log). List·Memᴰ k (y .made)) q j);
           }
-      go at (x ∷ gs) g (List·Memᴰ·tail q) e j =
-          let later = go (at + 64) gs g q e j in
-          record { log = later .log; there = List·Memᴰ·tail (later .there); same = later .same; made = later .made }
+      go at (x ∷ gs) g (List·Memᴰ·tail q) e f j =
+          let later = go (at + 64) gs g q e f j in
+          record { log = later .log; there = List·Memᴰ·tail (later .there); same = later .same; width = later .width; made = later .made }
+
+-- ---- one SAID, one log
+abbrev pub Apart : List Log → Type 0
+Apart gs = (g h : Log) → List·Memᴰ g gs → List·Memᴰ h gs → g .line .said ≡ h .line .said → g ≡ h
