@@ -52,9 +52,12 @@ EntriesLogged gs es = Each (λ (e : Entry). Logged gs (e .listing)) es
 pub log-listed : (gs hs : List Log) (said suite : ℕ) → LogOf gs said suite → LogOf (gs ++ hs) said suite
 log-listed gs hs said suite o = record { log = o .log; there = Memᴰ·append-left hs (o .there); said-is = o .said-is; suite-is = o .suite-is }
 
-mem-right : {A : Type 0} (xs : List A) {ys : List A} {x : A} → List·Memᴰ x ys → List·Memᴰ x (xs ++ ys)
+pub mem-right : {A : Type 0} (xs : List A) {ys : List A} {x : A} → List·Memᴰ x ys → List·Memᴰ x (xs ++ ys)
 mem-right [] i = i
 mem-right (y ∷ xs) i = List·Memᴰ·tail (mem-right xs i)
+
+pub log-right : (gs hs : List Log) (said suite : ℕ) → LogOf hs said suite → LogOf (gs ++ hs) said suite
+log-right gs hs said suite o = record { log = o .log; there = mem-right gs (o .there); said-is = o .said-is; suite-is = o .suite-is }
 
 module _ (half t : ℕ) (m : List ℕ) where
   pub log-clocked : (at : ℕ) (gs : List Log) (said suite : ℕ) → LogOf gs said suite → LogOf (logsTo half t m at gs) said suite
@@ -117,7 +120,7 @@ set-cases (y ∷ l) (suc i) a (List·Memᴰ·tail m) = under (set-cases l i a m)
     under (inl k) = inl (List·Memᴰ·tail k)
     under (inr e) = inr e
 
-at-in : (l : List Entry) (i : ℕ) → i < length l → List·Memᴰ (getD l i noEntry) l
+pub at-in : (l : List Entry) (i : ℕ) → i < length l → List·Memᴰ (getD l i noEntry) l
 at-in [] i less = absurd (omega arith)
 at-in (x ∷ l) zero less = List·Memᴰ·head refl
 at-in (x ∷ l) (suc i) less = List·Memᴰ·tail (at-in l i (omega arith))

@@ -4,3 +4,11 @@ pub mod Copies
 pub mod Agreement
 pub mod SaidLaws
 pub mod EntryLogs
+pub mod HeadOk
+pub mod LogShapes
+pub mod HeadSteps
+pub mod Inv
+pub mod ModemSteps
+pub mod HeadNext
+pub mod Frames
+pub mod Theorem
