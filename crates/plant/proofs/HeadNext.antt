@@ -34,7 +34,8 @@ use Rattle.headend_steps.specs.Search.{halfIn}
 use Rattle.headend_steps.specs.Answers.{paramsAt, keyReply}
 use Rattle.headend.specs.Calls as Head
 use Rattle.headend.specs.FrameCalls as HeadFrames
-use Rattle.headend.specs.Minting.{namedPairs}
+use Rattle.headend.specs.Minting.{namedPairs, acceptedList}
+use Rattle.headend.specs.Run.{acceptedIf}
 use Rattle.headend.proofs.AnswersSent.{request}
 use Rattle.headend.proofs.AnswerCases.{placeOf, KeyReplied}
 use Rattle.headend.proofs.Refused.{list-refused-same}
@@ -48,7 +49,9 @@ use Rattle.modem.proofs.PairLaws.{clock-pairs, clock-done}
 use Rattle.modem.proofs.FrameKept.{clock-fits}
 use Rattle.plant.specs.World.{World, Step, list, clock, up, sealDown, openUp, Frame, frameIf, oneIf, clockedBy, clockAnswers}
 use Rattle.plant.specs.Run.{Did, didOf}
+use Rattle.plant.specs.KeysMade.{clockIf}
 use Rattle.plant.proofs.LogLaws.{Log, MadeIn, Grows, logsListed, logsTo, grows-same, grows-listed, grows-clocked}
+use Rattle.plant.proofs.MadeRun.{logsBy}
 use Rattle.plant.proofs.Copies.{PairCopied, ParamsSent, ReplySent, PutOk, FrameOk, outOf}
 use Rattle.plant.proofs.HeadOk.{HeadOk, RecordLog, log-at, log-limits, shaped-at}
 use Rattle.plant.proofs.HeadSteps.{list-ok, list-refused-ok, clock-ok, receive-ok, open-ok}
@@ -79,12 +82,12 @@ module _ {D half own : ℕ} {w : World} {tr : List Did} {gs : List Log} (v : Inv
         (λ done.
         let new = logsListed half (w .head .clock) m 0 (namedPairs l) in
         let same : Head.listOf (w .head) (w .records) address allowed l m .state .clock ≡ w .head .clock = ap (λ (h : HeadEnd). h .clock) (list-state (w .head) (w .records) address allowed l m done) in
-        next-by v listing (gs ++ new) (grows-listed gs new) (list-ok (v .head) address allowed l m done) (v .fits) (v .own-is) (v .clocks ∙ sym same)
+        next-by v listing (gs ++ new) (grows-listed gs new) (sym (ap (λ (a : Answer). logsBy half gs (acceptedIf a (acceptedList (w .head) l m))) done)) (list-ok (v .head) address allowed l m done) (v .fits) (v .own-is) (v .clocks ∙ sym same)
         (pairs-grow D gs (gs ++ new) (grows-listed gs new) (w .modem) (v .pairs))
         (nothing-put (gs ++ new) (didOf w listing) refl) (nothing-sealed D half own (gs ++ new) (didOf w listing) refl) (omega (arith, same)))
         (λ r refused.
         let same : Head.listOf (w .head) (w .records) address allowed l m .state .clock ≡ w .head .clock = ap (λ (h : HeadEnd). h .clock) (list-refused-same (w .head) (w .records) r address allowed l m refused .0) in
-        next-by v listing gs (grows-same gs) (list-refused-ok (v .head) address allowed l m r refused) (v .fits) (v .own-is) (v .clocks ∙ sym same) (v .pairs)
+        next-by v listing gs (grows-same gs) (sym (ap (λ (a : Answer). logsBy half gs (acceptedIf a (acceptedList (w .head) l m))) refused)) (list-refused-ok (v .head) address allowed l m r refused) (v .fits) (v .own-is) (v .clocks ∙ sym same) (v .pairs)
         (nothing-put gs (didOf w listing) refl) (nothing-sealed D half own gs (didOf w listing) refl) (omega (arith, same)))
 
   -- ---- the clock, one second for both ends
@@ -100,13 +103,13 @@ module _ {D half own : ℕ} {w : World} {tr : List Did} {gs : List Log} (v : Inv
             let done = is-done (Head.clockOf (w .head) (w .records) t m .answer) (d .0) in
             let rest = clock-done (w .modem) lent t (is-done (Mdm.clockOf (w .modem) t lent .called .answer) (d .1)) in
             let at : Head.clockOf (w .head) (w .records) t m .state .clock ≡ t = ap (λ (h : HeadEnd). h .clock) (clock-state (w .head) (w .records) t m done) in
-            next-to v (clock t m lent) hs grows (clockedBy true w t m lent) (ap (λ (b : Bool). clockedBy b w t m lent) e)
+            next-to v (clock t m lent) hs grows (sym (ap (λ (b : Bool). logsBy half gs (clockIf b t m)) e)) (clockedBy true w t m lent) (ap (λ (b : Bool). clockedBy b w t m lent) e)
             (clock-ok (v .head) t m done) (clock-fits (w .modem) lent t (v .fits)) (rest .address ∙ v .own-is) (rest .clock ∙ sym at)
             (clock-pairs (PairCopied D hs) (w .modem) lent (pairs-grow D gs hs grows (w .modem) (v .pairs)) t)
             (nothing-put hs (didOf w (clock t m lent)) refl) (nothing-sealed D half own hs (didOf w (clock t m lent)) refl)
             (omega (arith, at, clock-forward (w .head) (w .records) t m done))
         go false e =
-            next-to v (clock t m lent) gs (grows-same gs) w (ap (λ (b : Bool). clockedBy b w t m lent) e)
+            next-to v (clock t m lent) gs (grows-same gs) (sym (ap (λ (b : Bool). logsBy half gs (clockIf b t m)) e)) w (ap (λ (b : Bool). clockedBy b w t m lent) e)
             (v .head) (v .fits) (v .own-is) (v .clocks) (v .pairs)
             (nothing-put gs (didOf w (clock t m lent)) refl) (nothing-sealed D half own gs (didOf w (clock t m lent)) refl) (omega arith)
 
@@ -139,7 +142,7 @@ module _ {D half own : ℕ} {w : World} {tr : List Did} {gs : List Log} (v : Inv
     pub up-next : Next D half own w tr gs (up address digest octets key lent)
     up-next =
         let same = receive-base (w .head) (w .records) address digest octets key lent in
-        next-by v (up address digest octets key lent) gs (grows-same gs) (receive-ok (v .head) address digest octets key lent) (v .fits) (v .own-is) (v .clocks ∙ sym (same .clock)) (v .pairs)
+        next-by v (up address digest octets key lent) gs (grows-same gs) refl (receive-ok (v .head) address digest octets key lent) (v .fits) (v .own-is) (v .clocks ∙ sym (same .clock)) (v .pairs)
         (λ o i code. subst (λ (n : ℕ). ReplySent gs n (takenOf o .fields)) (sym (same .clock)) (one-put (eqb address (w .modem .address)) put o i code reply-sent))
         (nothing-sealed D half own gs (didOf w (up address digest octets key lent)) refl) (omega (arith, same .clock))
       where
@@ -180,7 +183,7 @@ module _ {D half own : ℕ} {w : World} {tr : List Did} {gs : List Log} (v : Inv
 
     pub seal-down-next : Next D half own w tr gs (sealDown address said tek vector)
     seal-down-next =
-        next-by v (sealDown address said tek vector) gs (grows-same gs) (v .head) (v .fits) (v .own-is) (v .clocks) (v .pairs)
+        next-by v (sealDown address said tek vector) gs (grows-same gs) refl (v .head) (v .fits) (v .own-is) (v .clocks) (v .pairs)
         (nothing-put gs (didOf w (sealDown address said tek vector)) refl) (frames-ok (s .answer) refl) (omega arith)
 
   -- ---- an opening: a TEK Invalid is no Key Reply
@@ -189,7 +192,7 @@ module _ {D half own : ℕ} {w : World} {tr : List Did} {gs : List Log} (v : Inv
     open-up-next =
         let step = openUp direction address said number tek vector lent in
         let same = open-same (w .head) (w .records) direction address said number tek vector lent in
-        next-by v step gs (grows-same gs) (open-ok (v .head) direction address said number tek vector lent) (v .fits) (v .own-is) (v .clocks ∙ sym (same .clock)) (v .pairs)
+        next-by v step gs (grows-same gs) refl (open-ok (v .head) direction address said number tek vector lent) (v .fits) (v .own-is) (v .clocks ∙ sym (same .clock)) (v .pairs)
         (λ o i code. absurd (no-reply (eqb address (w .modem .address)) (HeadFrames.openOf (w .head) (w .records) direction address said number tek vector lent .invalid) o i code
         (invalid-not-reply (w .head) (w .records) direction address said number tek vector lent)))
         (nothing-sealed D half own gs (didOf w step) refl) (omega (arith, same .clock))

@@ -11,7 +11,9 @@ use Rattle.modem.specs.Limits.{modemFits}
 use Rattle.modem.proofs.PairSteps.{AllPairs}
 use Rattle.plant.specs.World.{World, Step, Frame}
 use Rattle.plant.specs.Run.{Did, didOf, after}
+use Rattle.plant.specs.KeysMade.{acceptedIn}
 use Rattle.plant.proofs.LogLaws.{Log, Grows}
+use Rattle.plant.proofs.MadeRun.{logsBy}
 use Rattle.plant.proofs.Copies.{PairCopied, PutOk, SealedOk, pair-grows, put-grows, sealed-grows}
 use Rattle.plant.proofs.HeadOk.{HeadOk}
 
@@ -29,13 +31,15 @@ pub record Inv (D half own : ℕ) (w : World) (tr : List Did) (gs : List Log) : 
 pub record Next (D half own : ℕ) (w : World) (tr : List Did) (gs : List Log) (s : Step) : Type 0 where
   pub logs : List Log
   pub grows : Grows gs logs
+  pub are : logs ≡ logsBy half gs (acceptedIn w s)
   pub inv : Inv D half own (after w s) (tr ++ (didOf w s ∷ [])) logs
 
 pub pairs-grow : (D : ℕ) (gs hs : List Log) → Grows gs hs → (m : Modem) → AllPairs (PairCopied D gs) m → AllPairs (PairCopied D hs) m
 pairs-grow D gs hs grows m ok i less held = pair-grows gs hs grows D (slotAt m i .said) (slotAt m i .suite) (slotAt m i .pair) (ok i less held)
 
 -- ---- from what a step does to each end and puts out
-module _ {D half own : ℕ} {w : World} {tr : List Did} {gs : List Log} (v : Inv D half own w tr gs) (s : Step) (hs : List Log) (grows : Grows gs hs) where
+module _ {D half own : ℕ} {w : World} {tr : List Did} {gs : List Log} (v : Inv D half own w tr gs) (s : Step) (hs : List Log) (grows : Grows gs hs)
+    (are : hs ≡ logsBy half gs (acceptedIn w s)) where
   pub next-by : HeadOk half (after w s .head) (after w s .records) hs → modemFits (after w s .modem) ≡ true → after w s .modem .address ≡ own
       → after w s .modem .clock ≡ after w s .head .clock → AllPairs (PairCopied D hs) (after w s .modem) → PutOk hs (didOf w s) → SealedOk D half own hs (didOf w s)
       → w .head .clock ≤ after w s .head .clock → Next D half own w tr gs s
@@ -43,6 +47,7 @@ module _ {D half own : ℕ} {w : World} {tr : List Did} {gs : List Log} (v : Inv
       record {
         logs = hs;
         grows = grows;
+        are = are;
         inv = record {
           head = head;
           fits = fits;

@@ -7,8 +7,11 @@ pub mod EntryLogs
 pub mod HeadOk
 pub mod LogShapes
 pub mod HeadSteps
+pub mod MadeRun
+pub mod MadeKept
 pub mod Inv
 pub mod ModemSteps
 pub mod HeadNext
 pub mod Frames
 pub mod Theorem
+pub mod Records

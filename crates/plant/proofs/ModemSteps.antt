@@ -58,13 +58,13 @@ module _ {D half own : ℕ} {w : World} {tr : List Did} {gs : List Log} (v : Inv
   pub established-next : (lent : ℕ) → Next D half own w tr gs (established lent)
   established-next lent =
       let rest = established-keeps (w .modem) lent in
-      next-by v (established lent) gs (grows-same gs) (v .head) (established-fits (w .modem) lent (v .fits)) (rest .address ∙ v .own-is) (rest .clock ∙ v .clocks)
+      next-by v (established lent) gs (grows-same gs) refl (v .head) (established-fits (w .modem) lent (v .fits)) (rest .address ∙ v .own-is) (rest .clock ∙ v .clocks)
       (established-pairs (PairCopied D gs) (w .modem) lent (v .pairs)) (nothing-put gs (didOf w (established lent)) refl) (nothing-sealed D half own gs (didOf w (established lent)) refl) (omega arith)
 
   pub reauth-next : (lent : ℕ) → Next D half own w tr gs (reauth lent)
   reauth-next lent =
       let rest = reauth-keeps (w .modem) lent in
-      next-by v (reauth lent) gs (grows-same gs) (v .head) (reauth-fits (w .modem) lent (v .fits)) (rest .address ∙ v .own-is) (rest .clock ∙ v .clocks)
+      next-by v (reauth lent) gs (grows-same gs) refl (v .head) (reauth-fits (w .modem) lent (v .fits)) (rest .address ∙ v .own-is) (rest .clock ∙ v .clocks)
       (reauth-pairs (PairCopied D gs) (w .modem) lent (v .pairs)) (nothing-put gs (didOf w (reauth lent)) refl) (nothing-sealed D half own gs (didOf w (reauth lent)) refl) (omega arith)
 
   -- ---- a message: a copy of one that the head-end put out, or refused
@@ -86,7 +86,7 @@ module _ {D half own : ℕ} {w : World} {tr : List Did} {gs : List Log} (v : Inv
     pub down-next : Allowed D tr w (down digest octets lent) → Next D half own w tr gs (down digest octets lent)
     down-next allowed =
         let rest = receive-keeps (w .modem) lent octets digest in
-        next-by v (down digest octets lent) gs (grows-same gs) (v .head) (receive-fits (w .modem) lent octets digest (v .fits)) (rest .address ∙ v .own-is) (rest .clock ∙ v .clocks)
+        next-by v (down digest octets lent) gs (grows-same gs) refl (v .head) (receive-fits (w .modem) lent octets digest (v .fits)) (rest .address ∙ v .own-is) (rest .clock ∙ v .clocks)
         (receive-pairs (PairCopied D gs) (w .modem) lent (v .pairs) octets digest (taken-pair allowed))
         (nothing-put gs (didOf w (down digest octets lent)) refl) (nothing-sealed D half own gs (didOf w (down digest octets lent)) refl) (omega arith)
 
@@ -119,7 +119,7 @@ module _ {D half own : ℕ} {w : World} {tr : List Did} {gs : List Log} (v : Inv
 
     pub seal-up-next : Next D half own w tr gs (sealUp said tek vector)
     seal-up-next =
-        next-by v (sealUp said tek vector) gs (grows-same gs) (v .head) (v .fits) (v .own-is) (v .clocks) (v .pairs)
+        next-by v (sealUp said tek vector) gs (grows-same gs) refl (v .head) (v .fits) (v .own-is) (v .clocks) (v .pairs)
         (nothing-put gs (didOf w (sealUp said tek vector)) refl) (frames-ok (s .answer) refl) (omega arith)
 
   -- ---- an opening
@@ -127,5 +127,5 @@ module _ {D half own : ℕ} {w : World} {tr : List Did} {gs : List Log} (v : Inv
   open-down-next direction address said number tek vector lent =
       let step = openDown direction address said number tek vector lent in
       let same = open-keeps (w .modem) direction address said number tek vector lent in
-      next-by v step gs (grows-same gs) (v .head) (open-fits (w .modem) direction address said number tek vector lent (v .fits)) (same .address ∙ v .own-is) (same .clock ∙ v .clocks)
+      next-by v step gs (grows-same gs) refl (v .head) (open-fits (w .modem) direction address said number tek vector lent (v .fits)) (same .address ∙ v .own-is) (same .clock ∙ v .clocks)
       (open-pairs (w .modem) direction address said number tek vector lent (PairCopied D gs) (v .pairs)) (nothing-put gs (didOf w step) refl) (nothing-sealed D half own gs (didOf w step) refl) (omega arith)

@@ -40,21 +40,22 @@ use Rattle.plant.proofs.Frames.{modem-agrees, head-agrees}
 none-opened : (F : ℕ) (tr : List Did) (d : Did) → d .given .opened ≡ [] → AgreesWith F tr d
 none-opened F tr d e a i f j o k = elim (subst (List·Memᴰ o) e k) [ ]
 
+-- ---- each step goes on
+module _ {D half own : ℕ} (own-fits : addressFits own ≡ true) {w : World} {tr : List Did} {gs : List Log} (v : Inv D half own w tr gs) where
+  pub next : (s : Step) → Allowed D tr w s → Next D half own w tr gs s
+  next (list address allowed l m) ok = list-next v address allowed l m
+  next (clock t m lent) ok = clock-next v t m lent
+  next (established lent) ok = established-next v lent
+  next (reauth lent) ok = reauth-next v lent
+  next (up address digest octets key lent) ok = up-next v address digest octets key lent
+  next (down digest octets lent) ok = down-next v digest octets lent ok
+  next (sealDown address said tek vector) ok = seal-down-next v address said tek vector
+  next (sealUp said tek vector) ok = seal-up-next v own-fits said tek vector
+  next (openUp direction address said number tek vector lent) ok = open-up-next v direction address said number tek vector lent
+  next (openDown direction address said number tek vector lent) ok = open-down-next v direction address said number tek vector lent
+
 module _ {D half own : ℕ} (F : ℕ) (bound : D + F ≤ 14 * half) (own-fits : addressFits own ≡ true) where
   module _ {w : World} {tr : List Did} {gs : List Log} (v : Inv D half own w tr gs) where
-    -- ---- each step goes on
-    next : (s : Step) → Allowed D tr w s → Next D half own w tr gs s
-    next (list address allowed l m) ok = list-next v address allowed l m
-    next (clock t m lent) ok = clock-next v t m lent
-    next (established lent) ok = established-next v lent
-    next (reauth lent) ok = reauth-next v lent
-    next (up address digest octets key lent) ok = up-next v address digest octets key lent
-    next (down digest octets lent) ok = down-next v digest octets lent ok
-    next (sealDown address said tek vector) ok = seal-down-next v address said tek vector
-    next (sealUp said tek vector) ok = seal-up-next v own-fits said tek vector
-    next (openUp direction address said number tek vector lent) ok = open-up-next v direction address said number tek vector lent
-    next (openDown direction address said number tek vector lent) ok = open-down-next v direction address said number tek vector lent
-
     -- ---- and each opening agrees with every earlier sealing
     down-agrees : (direction address said : ℕ) (number : TekNumber) (tek vector lent : ℕ) → AgreesWith F tr (didOf w (openDown direction address said number tek vector lent))
     down-agrees direction address said number tek vector lent a i f j o (List·Memᴰ·head e) d soon =
@@ -85,7 +86,7 @@ module _ {D half own : ℕ} (F : ℕ) (bound : D + F ≤ 14 * half) (own-fits : 
 
   pub all-agree : (ss : List Step) {w : World} {tr : List Did} {gs : List Log} → Inv D half own w tr gs → Counts D tr w ss → Agrees F tr w ss
   all-agree [] v c = tt
-  all-agree (s ∷ ss) v c = (agrees v s, all-agree ss (next v s (c .0) .inv) (c .1))
+  all-agree (s ∷ ss) v c = (agrees v s, all-agree ss (next own-fits v s (c .0) .inv) (c .1))
 
 -- ---- the fresh pair
 module _ (settings : Settings) (address said : ℕ) (records : List Assoc) (fits : settingsFit settings ≡ true) (address-fits : addressFits address ≡ true) (said-fits : said ≤ 16383) where

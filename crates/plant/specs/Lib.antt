@@ -1,3 +1,4 @@
 pub mod World
 pub mod Run
 pub mod Claim
+pub mod KeysMade
