@@ -15,3 +15,5 @@ pub mod HeadNext
 pub mod Frames
 pub mod Theorem
 pub mod Records
+pub mod Alike
+pub mod Struck
