@@ -17,3 +17,4 @@ pub mod Theorem
 pub mod Records
 pub mod Alike
 pub mod Struck
+pub mod Demand3

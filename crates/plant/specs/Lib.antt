@@ -2,3 +2,4 @@ pub mod World
 pub mod Run
 pub mod Claim
 pub mod KeysMade
+pub mod Demand3

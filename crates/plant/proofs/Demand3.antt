@@ -1,0 +1,50 @@
+-- Demand 3: for all settings, addresses, own SAIDs and records, and every list that counts, with D + F at most 7 L.
+use mathlib.Core.Path.{_≡_}
+use mathlib.Core.Logic.{_⊎_, inl, inr}
+use mathlib.Core.Bool.{true}
+use mathlib.Core.List.{List, [], _∷_, _++_}
+use Prim.Native.Nat.{ℕ, _+_, _*_, _≤_}
+use Rattle.keys.specs.declared.settings.Settings.{Settings}
+use Rattle.keys.specs.Settings.{settingsFit}
+use Rattle.association.specs.declared.record.Assoc.{Assoc}
+use Rattle.headend_steps.specs.Limits.{addressFits}
+use Rattle.plant.specs.World.{World, fresh, Step, list, clock, established, reauth, up, down, sealDown, sealUp, openUp, openDown}
+use Rattle.plant.specs.Run.{Did, didOf, after, Allowed, Counts}
+use Rattle.plant.specs.Demand3.{Demand3, Sent, sentBy, AsTold, AllAsTold, Listed}
+use Rattle.plant.proofs.Theorem.{frames-agree}
+use Rattle.plant.proofs.Struck.{keys-alone}
+use Rattle.plant.proofs.Records.{records-show}
+
+-- ---- a list as document 01 tells it counts
+told-allowed : (D F : ℕ) (sent : List Sent) (earlier : List Did) (w : World) (s : Step) → AsTold D F sent earlier w s → Allowed D earlier w s
+told-allowed D F sent earlier w (list address allowed l m) t = tt
+told-allowed D F sent earlier w (clock second m lent) t = tt
+told-allowed D F sent earlier w (established lent) t = tt
+told-allowed D F sent earlier w (reauth lent) t = tt
+told-allowed D F sent earlier w (up address digest octets key lent) t = tt
+told-allowed D F sent earlier w (down digest octets lent) (inl t) = inl (t .0)
+told-allowed D F sent earlier w (down digest octets lent) (inr t) = inr t
+told-allowed D F sent earlier w (sealDown address said tek vector) t = tt
+told-allowed D F sent earlier w (sealUp said tek vector) t = tt
+told-allowed D F sent earlier w (openUp direction address said number tek vector lent) t = tt
+told-allowed D F sent earlier w (openDown direction address said number tek vector lent) t = tt
+
+told-counts : (D F : ℕ) (ss : List Step) (sent : List Sent) (earlier : List Did) (w : World) → AllAsTold D F sent earlier w ss → Counts D earlier w ss
+told-counts D F [] sent earlier w t = tt
+told-counts D F (s ∷ ss) sent earlier w t =
+    (told-allowed D F sent earlier w s (t .0), told-counts D F ss (sent ++ sentBy w s) (earlier ++ (didOf w s ∷ [])) (after w s) (t .1))
+
+module _ (settings : Settings) (address said : ℕ) (records : List Assoc) (fits : settingsFit settings ≡ true) (address-fits : addressFits address ≡ true) (said-fits : said ≤ 16383)
+    (D F : ℕ) (bound : D + F ≤ 7 * settings .tek .life) (ss : List Step) where
+  -- for every list that counts
+  pub demand-3 : Counts D [] (fresh settings address said records) ss → Demand3 settings address said records F ss
+  demand-3 counts =
+      record {
+        frames = frames-agree settings address said records fits address-fits said-fits D F bound ss counts;
+        made = keys-alone settings address said records fits address-fits said-fits D ss counts;
+        shown = records-show settings address said records fits address-fits said-fits D ss counts;
+      }
+
+  -- and so for document 01's own
+  pub demand-3-listed : Listed D F (fresh settings address said records) ss → Demand3 settings address said records F ss
+  demand-3-listed told = demand-3 (told-counts D F ss [] [] (fresh settings address said records) (told .steps))
