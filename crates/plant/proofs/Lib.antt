@@ -18,3 +18,4 @@ pub mod Records
 pub mod Alike
 pub mod Struck
 pub mod Demand3
+pub mod Counts

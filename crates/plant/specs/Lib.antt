@@ -3,3 +3,4 @@ pub mod Run
 pub mod Claim
 pub mod KeysMade
 pub mod Demand3
+pub mod Tally
