@@ -7,11 +7,10 @@ use Rattle.keys.specs.declared.refusal.Answer.{Answer}
 use Rattle.keys.specs.declared.refusal.Answer.the-variants.{Done, Refused}
 use Rattle.keys.specs.declared.refusal.Refusal.the-variants.{OutOfLimits}
 use Rattle.keys.specs.declared.settings.Settings.{Settings}
-use Rattle.keys.specs.Questions.{Question, firstNo}
+use Rattle.keys.specs.Questions.{firstNo}
 use Rattle.keys.specs.Settings.{settingsFit, noSettings}
 use Rattle.association.specs.declared.listing.Listing.{Listing}
 use Rattle.association.specs.declared.record.Assoc.{Assoc}
-use Rattle.wire.specs.declared.fields.Reading.{Reading}
 use Rattle.wire.specs.declared.fields.Receiver.the-variants.{HeadEnd as AtHeadEnd}
 use Rattle.wire.specs.Reading.{readOf}
 use Rattle.records.specs.Records.{firstOf, lookupOf, rolledTo, storedAt}

@@ -1,7 +1,6 @@
 -- The answers of the head-end by case, in document 01's order (`specs/Answers.antt`).
-use mathlib.Core.Path.{_≡_, refl, sym, _∙_, ap}
-use mathlib.Core.Bool.{Bool, true, false, not}
-use mathlib.Core.List.{List, [], _∷_}
+use mathlib.Core.Path.{_≡_}
+use mathlib.Core.Bool.{Bool, true, false}
 use Prim.Native.Nat.{ℕ}
 use lib.Dec.{eqb}
 use Rattle.association.specs.declared.record.Assoc.{Assoc}
@@ -9,7 +8,6 @@ use Rattle.wire.specs.declared.fields.Fields.{Fields}
 use Rattle.wire.specs.Fields.{noFields}
 use Rattle.headend_steps.specs.declared.state.HeadEnd.{HeadEnd}
 use Rattle.headend_steps.specs.declared.entries.Known.{Known}
-use Rattle.headend_steps.specs.declared.answers.Reaction.{Reaction}
 use Rattle.headend_steps.specs.Authorization.{isActive}
 use Rattle.headend_steps.specs.Entries.{lists}
 use Rattle.headend_steps.specs.Answers.{reject, invalid, keyReject, keyReply, keyAnswer, replyAnswer, keysAfter, stateAfter, requestAnswer, requestState, requestReaction, reactionOf}

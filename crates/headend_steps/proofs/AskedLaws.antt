@@ -1,6 +1,6 @@
 -- What a call's passed questions say: the facts of each, from the answer `Done`.
-use mathlib.Core.Path.{_≡_, refl, sym, _∙_, ap}
-use mathlib.Core.Bool.{Bool, true, false, cond, _&&_}
+use mathlib.Core.Path.{_≡_, refl}
+use mathlib.Core.Bool.{Bool, true, false, _&&_}
 use mathlib.Core.List.{List, [], _∷_}
 use Prim.Native.Nat.{ℕ, _+_, _*_, _<_, _≤_}
 use native.Mathlib.Omega.{arith}
@@ -19,7 +19,6 @@ use Rattle.association.specs.Record.{saidFits}
 use Rattle.wire.specs.declared.fields.Reading.{Reading}
 use Rattle.keys.proofs.AnswerLaws.{done-met, is-done}
 use Rattle.headend_steps.specs.declared.state.HeadEnd.{HeadEnd}
-use Rattle.headend_steps.specs.declared.state.Called.{Called}
 use Rattle.headend_steps.specs.declared.answers.Reaction.{Reaction}
 use Rattle.headend_steps.specs.State.{withClock, answeredCall}
 use Rattle.headend_steps.specs.Entries.{entriesOf, knownOf}

@@ -1,18 +1,16 @@
 -- Passing over the entries in use one by one: what is passed does not change what the rest says.
-use mathlib.Core.Path.{_≡_, refl, sym, _∙_, ap}
+use mathlib.Core.Path.{_≡_, sym, _∙_, ap}
 use mathlib.Core.Bool.{Bool, true, false, cond, _&&_}
 use mathlib.Core.List.{List, [], _∷_, _++_}
-use Prim.Native.Nat.{ℕ, zero, suc, _+_, _<_, _≤_}
+use Prim.Native.Nat.{ℕ, suc, _+_, _<_}
 use native.Mathlib.Numerals.{add-one}
 use native.Mathlib.Omega.{arith}
 use lib.Dec.{ltb, eqb}
 use lib.ListN.{length, getD, take, drop}
 use lib.Seq.{length-take-le, take-all, take-suc, take-take, drop-cons, drop-length, getD-take}
-use borrow.Author.Tests.{lt-ltb, le-ltb}
 use Rattle.keys.proofs.ListLaws.{IfLt, if-lt}
 use Rattle.association.specs.declared.listing.Listing.{Listing}
 use Rattle.headend_steps.specs.declared.state.Entry.{Entry}
-use Rattle.headend_steps.specs.declared.entries.Known.{Known}
 use Rattle.headend_steps.specs.Entries.{inUse, hereOr, knownHere, knownNone, knownFrom}
 use Rattle.headend_steps.specs.Limits.{entryFits, isApart, allApart, entriesFrom}
 

@@ -1,15 +1,14 @@
 -- Writing an answer: the writer takes what can be written, and nothing is written where there is no answer.
-use mathlib.Core.Path.{_≡_, refl, sym, _∙_, ap}
-use mathlib.Core.Bool.{Bool, true, false, _&&_}
-use mathlib.Core.List.{List, []}
+use mathlib.Core.Path.{_≡_, refl, _∙_, ap}
+use mathlib.Core.Bool.{true, false}
+use mathlib.Core.List.{List}
 use Prim.Native.Nat.{ℕ}
-use lib.Dec.{leb, eqb}
+use lib.Dec.{eqb}
 use lib.ListN.{length}
 use borrow.Author.Tests.{le-leb}
 use Rattle.keys.specs.Octets.{overlay}
 use Rattle.wire.specs.declared.fields.Fields.{Fields}
 use Rattle.wire.specs.declared.fields.Writing.{Writing}
-use Rattle.wire.specs.Limits.{fieldsFit, authKeyFits}
 use Rattle.wire.specs.Writing.{messageOf, noDigest, writeQuestions, writtenOf, writeOf}
 use Rattle.headend_steps.specs.Receive.{answerOctets, Writable}
 

@@ -1,7 +1,7 @@
 -- Authorization keys at the head-end (document 01, "Head-end answers": Authorization Request).
-use mathlib.Core.Bool.{Bool, true, false, _&&_, _||_}
+use mathlib.Core.Bool.{Bool, true, false, _||_}
 use mathlib.Core.List.{List, [], _∷_}
-use Prim.Native.Nat.{ℕ, _+_, _-_, _*_, _≤_, _<_}
+use Prim.Native.Nat.{ℕ, _+_, _-_, _*_, _≤_}
 use lib.Dec.{ltb}
 use Rattle.keys.specs.Numbers.{sameAk, akAfter}
 use Rattle.keys.specs.declared.numbers.AkNumber.{AkNumber}

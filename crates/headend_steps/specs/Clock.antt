@@ -1,5 +1,5 @@
 -- The head-end's clock: its questions and the head-end after it (document 01, questions 1 to 3).
-use mathlib.Core.Bool.{Bool, _&&_}
+use mathlib.Core.Bool.{_&&_}
 use mathlib.Core.List.{List, [], _∷_}
 use Prim.Native.Nat.{ℕ, _*_}
 use lib.Dec.{leb, eqb}

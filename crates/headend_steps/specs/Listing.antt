@@ -1,5 +1,5 @@
 -- Listing a modem: its questions and the head-end after it (document 01, "Traffic keys at the head-end", questions 1, 2, 4 and 5).
-use mathlib.Core.Bool.{Bool, _&&_}
+use mathlib.Core.Bool.{_&&_}
 use mathlib.Core.List.{List, [], _∷_}
 use Prim.Native.Nat.{ℕ, _+_, _*_}
 use lib.Dec.{leb, ltb, eqb}

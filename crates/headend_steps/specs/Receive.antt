@@ -8,7 +8,7 @@ use lib.ListN.{length}
 use Rattle.keys.specs.declared.refusal.Answer.{Answer}
 use Rattle.keys.specs.declared.refusal.Answer.the-variants.{Done, Refused}
 use Rattle.keys.specs.declared.refusal.Refusal.the-variants.{OutOfLimits, WrongLength, WrongIdentifier}
-use Rattle.keys.specs.Questions.{Question, firstThen}
+use Rattle.keys.specs.Questions.{firstThen}
 use Rattle.association.specs.declared.search.Found.{Found}
 use Rattle.association.specs.Record.{saidFits, recordFits}
 use Rattle.wire.specs.declared.fields.Fields.{Fields}

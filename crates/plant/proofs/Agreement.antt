@@ -1,6 +1,6 @@
 -- The heart of demand 3: a frame that is opened at second t is opened with the key that sealed it.
-use mathlib.Core.Path.{_≡_, refl, sym, _∙_, ap, subst}
-use mathlib.Core.Logic.{_⊎_, inl, inr}
+use mathlib.Core.Path.{_≡_, sym, _∙_, ap, subst}
+use mathlib.Core.Logic.{inl, inr}
 use mathlib.Core.List.{List, List·Memᴰ}
 use Prim.Native.Nat.{ℕ, _+_, _*_, _%_, _≤_, _<_}
 use native.Mathlib.Omega.{arith}
@@ -8,7 +8,7 @@ use lib.ListN.{take}
 use Rattle.keys.specs.declared.numbers.TekNumber.{TekNumber}
 use Rattle.keys.specs.declared.traffic.TrafficKey.{TrafficKey}
 use Rattle.keys.specs.Suites.{widthOf}
-use Rattle.keys.specs.Sealing.{KeyOut, keyOut}
+use Rattle.keys.specs.Sealing.{keyOut}
 use Rattle.keys.proofs.ListLaws.{Each}
 use Rattle.association.specs.Made.{Made}
 use Rattle.association.proofs.MadeLaws.{Follows}

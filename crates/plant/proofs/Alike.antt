@@ -1,6 +1,6 @@
 -- Two head-ends that differ in authorization keys and counts alone answer listings and clock calls alike.
 use mathlib.Core.Path.{_≡_, refl, sym, _∙_, ap, subst}
-use mathlib.Core.Bool.{Bool, true, false, _&&_}
+use mathlib.Core.Bool.{Bool, true, _&&_}
 use mathlib.Core.List.{List, [], _∷_, map}
 use Prim.Native.Nat.{ℕ, zero, suc, _+_, _*_}
 use lib.Dec.{leb, ltb, eqb}
@@ -9,7 +9,7 @@ use Rattle.keys.specs.declared.refusal.Answer.{Answer}
 use Rattle.keys.specs.declared.refusal.Answer.the-variants.{Done, Refused}
 use Rattle.keys.specs.declared.refusal.Refusal.the-variants.{OutOfLimits, WrongLength, NoFreePlace, NotNew, ClockOutOfOrder}
 use Rattle.keys.specs.declared.settings.Settings.{Settings}
-use Rattle.keys.specs.Questions.{Question, firstNo}
+use Rattle.keys.specs.Questions.{firstNo}
 use Rattle.keys.specs.Settings.{halfOf}
 use Rattle.association.specs.declared.record.Assoc.{Assoc}
 use Rattle.association.specs.declared.listing.Listing.{Listing}
@@ -17,11 +17,11 @@ use Rattle.association.specs.declared.search.Probe.the-variants.{OutOfLimits as
 use Rattle.records.specs.Records.{firstOf, rolledTo, storedAt}
 use Rattle.headend_steps.specs.declared.state.Entry.{Entry}
 use Rattle.headend_steps.specs.declared.state.HeadEnd.{HeadEnd}
-use Rattle.headend_steps.specs.State.{noKeys, withClock}
+use Rattle.headend_steps.specs.State.{noKeys}
 use Rattle.headend_steps.specs.Entries.{entriesOf}
 use Rattle.headend_steps.specs.Limits.{addressFits, listingFits, saidsDiffer, isApart, allApart, headFits}
 use Rattle.headend_steps.specs.Search.{halfIn, outOfLimits, oneOf}
-use Rattle.headend_steps.specs.Listing.{grown, listQuestions, listAnswer, listFor, listCalled}
+use Rattle.headend_steps.specs.Listing.{listQuestions, listAnswer, listFor, listCalled}
 use Rattle.headend_steps.specs.Clock.{clockQuestions, clockAnswer, clockFor, clockCalled}
 use Rattle.headend_steps.specs.Answers.{withKeys}
 use Rattle.headend.specs.Calls.{recordsFor, listOf, listRecords, clockOf, clockRecords}

@@ -1,10 +1,10 @@
 -- Over any list at all: each end's counts are the numbers of such openings in the trace.
 use mathlib.Core.Path.{_≡_, refl, sym, _∙_, ap, subst}
-use mathlib.Core.Bool.{Bool, true, false, cond, _&&_, _||_}
-use mathlib.Core.List.{List, [], _∷_, _++_}
-use Prim.Native.Nat.{ℕ, zero, suc, _+_, _≤_, _<_}
+use mathlib.Core.Bool.{Bool, true, false, cond, _||_}
+use mathlib.Core.List.{List, [], _∷_}
+use Prim.Native.Nat.{ℕ, zero, suc, _+_, _≤_}
 use native.Mathlib.Omega.{arith}
-use lib.Dec.{eqb, leb}
+use lib.Dec.{eqb}
 use lib.ListN.{length}
 use borrow.Author.Tests.{lt-leb, eqb-true, eqb-false}
 use Rattle.keys.specs.declared.refusal.Answer.{Answer}
@@ -19,14 +19,12 @@ use Rattle.records.specs.Records.{firstOf, lookupOf}
 use Rattle.keys.proofs.AnswerLaws.{number-done}
 use Rattle.wire.proofs.HoldsLaws.{never}
 use Rattle.headend_steps.specs.declared.state.HeadEnd.{HeadEnd}
-use Rattle.headend_steps.specs.Entries.{knownOf}
 use Rattle.headend_steps.specs.Search.{outOfLimits, oneOf}
 use Rattle.headend_steps.specs.Listing.{listAnswer, listFor, listCalled}
 use Rattle.headend_steps.specs.Clock.{clockAnswer, clockFor, clockCalled}
 use Rattle.headend_steps.specs.Frames as HF
 use Rattle.headend.specs.Calls as Head
 use Rattle.headend.specs.FrameCalls as HeadFrames
-use Rattle.modem.specs.Calls as Mdm
 use Rattle.modem.specs.Frames as ModemFrames
 use Rattle.modem_steps.specs.declared.state.Modem.{Modem}
 use Rattle.modem.proofs.PairLaws.{established-keeps, reauth-keeps, receive-keeps, clock-keeps}
@@ -170,8 +168,9 @@ list-counts (s ∷ ss) w =
     let p = step-counts w s in
     let q = list-counts ss (after w s) in
     let d = didOf w s .given .opened in
-    let ds = traceFrom (after w s) ss in
-    (q .0 ∙ ap (moreBy (tally 0 isTaken ds)) (p .0) ∙ sym (more-append (hits 0 isTaken d) (tally 0 isTaken ds) (w .head .taken)),
-    q .1 ∙ ap (moreBy (tally 0 isCountedRefused ds)) (p .1) ∙ sym (more-append (hits 0 isCountedRefused d) (tally 0 isCountedRefused ds) (w .head .refused)),
-    q .2 ∙ ap (moreBy (tally 1 isTaken ds)) (p .2) ∙ sym (more-append (hits 1 isTaken d) (tally 1 isTaken ds) (w .modem .taken)),
-    q .3 ∙ ap (moreBy (tally 1 isCountedRefused ds)) (p .3) ∙ sym (more-append (hits 1 isCountedRefused d) (tally 1 isCountedRefused ds) (w .modem .refused)))
+    let ds = traceFrom (after w s) ss in (
+      q .0 ∙ ap (moreBy (tally 0 isTaken ds)) (p .0) ∙ sym (more-append (hits 0 isTaken d) (tally 0 isTaken ds) (w .head .taken)),
+      q .1 ∙ ap (moreBy (tally 0 isCountedRefused ds)) (p .1) ∙ sym (more-append (hits 0 isCountedRefused d) (tally 0 isCountedRefused ds) (w .head .refused)),
+      q .2 ∙ ap (moreBy (tally 1 isTaken ds)) (p .2) ∙ sym (more-append (hits 1 isTaken d) (tally 1 isTaken ds) (w .modem .taken)),
+      q .3 ∙ ap (moreBy (tally 1 isCountedRefused ds)) (p .3) ∙ sym (more-append (hits 1 isCountedRefused d) (tally 1 isCountedRefused ds) (w .modem .refused)),
+    )

@@ -3,16 +3,16 @@ use mathlib.Core.Path.{_≡_, refl, sym, _∙_, ap, subst}
 use mathlib.Core.Logic.{_⊎_, inl, inr}
 use mathlib.Core.Bool.{Bool, true, false, cond, not}
 use mathlib.Core.List.{List, [], _∷_, _++_, List·Memᴰ, List·Memᴰ·head, List·Memᴰ·tail, Memᴰ·append-left}
-use Prim.Native.Nat.{ℕ, zero, suc, _+_, _<_, _≤_}
+use Prim.Native.Nat.{ℕ, zero, suc, _+_, _<_}
 use native.Mathlib.Numerals.{add-one}
 use native.Mathlib.Omega.{arith}
 use lib.Dec.{eqb}
-use lib.ListN.{length, take, getD, set, length-take, length-set}
+use lib.ListN.{length, take, getD, set, length-take}
 use lib.Seq.{take-suc-set, take-set-lt}
 use borrow.Author.Tests.{eqb-true, eqb-false}
 use Rattle.keys.specs.declared.refusal.Answer.{Answer}
 use Rattle.keys.specs.declared.refusal.Answer.the-variants.{Done, Refused}
-use Rattle.keys.proofs.ListLaws.{Each, each-cons, each-nil}
+use Rattle.keys.proofs.ListLaws.{Each}
 use Rattle.association.specs.declared.listing.Listing.{Listing}
 use Rattle.association.specs.declared.record.Assoc.{Assoc}
 use Rattle.association.specs.declared.search.Found.{Found}
@@ -33,7 +33,6 @@ use Rattle.headend_steps.proofs.LimitsLaws.{known-place}
 use Rattle.headend.specs.Calls.{receiveOf}
 use Rattle.headend.specs.Minting.{pairAt, pairsTo, namedPairs}
 use Rattle.plant.proofs.LogLaws.{Log, logTo, logListed, logsTo, logsListed, to-said, to-suite}
-use Rattle.plant.proofs.SaidLaws.{each-append}
 
 pub record LogOf (gs : List Log) (said suite : ℕ) : Type 0 where
   pub log : Log

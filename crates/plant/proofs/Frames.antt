@@ -1,20 +1,19 @@
 -- Every delivered frame is opened with the key that its sealing gave, or refused with 13 or 10: demand 3, part 1, for every list that counts.
-use mathlib.Core.Path.{_≡_, refl, sym, _∙_, ap, subst}
+use mathlib.Core.Path.{_≡_, sym, _∙_, ap, subst}
 use mathlib.Core.Logic.{_⊎_, inl, inr}
-use mathlib.Core.Bool.{Bool, true, _&&_}
-use mathlib.Core.List.{List, [], _∷_, _++_, List·Memᴰ, List·Memᴰ·head, List·Memᴰ·tail}
+use mathlib.Core.Bool.{true, _&&_}
+use mathlib.Core.List.{List, List·Memᴰ}
 use Prim.Native.Nat.{ℕ, _+_, _*_, _≤_, _<_}
 use native.Mathlib.Omega.{arith}
-use lib.Dec.{leb, ltb}
+use lib.Dec.{leb}
 use lib.ListN.{getD}
 use borrow.Author.Tests.{leb-true, ltb-true}
 use Rattle.keys.specs.declared.numbers.TekNumber.{TekNumber}
 use Rattle.keys.specs.declared.traffic.TrafficKey.{TrafficKey}
-use Rattle.keys.specs.declared.refusal.Answer.the-variants.{Done}
 use Rattle.keys.specs.Refusal.{answerNumber}
 use Rattle.keys.specs.Numbers.{tekInRange}
 use Rattle.keys.specs.Suites.{widthOf}
-use Rattle.keys.specs.Sealing.{KeyOut, keyOut}
+use Rattle.keys.specs.Sealing.{keyOut}
 use Rattle.keys.proofs.TestLaws.{both}
 use Rattle.association.specs.declared.record.Assoc.{Assoc}
 use Rattle.association.specs.Made.{Made, keyOf, recordOf}
@@ -23,22 +22,18 @@ use Rattle.headend_steps.specs.Limits.{addressFits}
 use Rattle.headend_steps.specs.Frames.{HeadOpened}
 use Rattle.headend.specs.FrameCalls as HeadFrames
 use Rattle.headend.proofs.FrameLaws as HeadLaws
-use Rattle.headend.proofs.FrameAnswers as HeadAnswers
 use Rattle.modem.specs.Frames as ModemFrames
 use Rattle.modem.specs.Frames.{ModemOpened, machineOf}
 use Rattle.modem.proofs.FrameLaws as ModemLaws
 use Rattle.modem_steps.specs.Slots.{slotOfSaid}
-use Rattle.plant.specs.World.{World, Step, list, clock, established, reauth, up, down, sealDown, sealUp, openUp, openDown, Frame, Opening}
-use Rattle.plant.specs.Run.{Did, didOf, after, Allowed, Counts}
-use Rattle.plant.specs.Claim.{Delivers, Agree, AgreesWith, Agrees}
+use Rattle.plant.specs.World.{World, list, clock, up, down, Frame}
+use Rattle.plant.specs.Run.{Did}
 use Rattle.plant.proofs.LogLaws.{Log}
 use Rattle.plant.proofs.SaidLaws.{apart-by}
-use Rattle.plant.proofs.Copies.{Copied, PairCopied, FrameOk}
+use Rattle.plant.proofs.Copies.{Copied, FrameOk}
 use Rattle.plant.proofs.Agreement.{down-same, up-same}
-use Rattle.plant.proofs.HeadOk.{HeadOk, RecordLog, log-at, near, recorded}
-use Rattle.plant.proofs.Inv.{Inv, Next}
-use Rattle.plant.proofs.HeadNext.{list-next, clock-next, up-next, seal-down-next, open-up-next}
-use Rattle.plant.proofs.ModemSteps.{established-next, reauth-next, down-next, seal-up-next, open-down-next}
+use Rattle.plant.proofs.HeadOk.{log-at, near, recorded}
+use Rattle.plant.proofs.Inv.{Inv}
 
 -- three lengths that are long enough
 long-each : (a b c : ℕ) (t v n : ℕ) → (leb a t && leb b v && leb c n) ≡ true → (a ≤ t) × (b ≤ v) × (c ≤ n)

@@ -1,43 +1,37 @@
 -- The head-end's steps, and the clock of both ends, go on with the invariant: what a Key Reply shows are keys made.
 use mathlib.Core.Path.{_≡_, refl, sym, _∙_, ap, subst}
-use mathlib.Core.Logic.{_⊎_, inl, inr}
-use mathlib.Core.Bool.{Bool, true, false, _&&_}
+use mathlib.Core.Logic.{inl}
+use mathlib.Core.Bool.{Bool, true, false}
 use mathlib.Core.List.{List, [], _∷_, _++_, List·Memᴰ, List·Memᴰ·head, List·Memᴰ·tail}
-use Prim.Native.Nat.{ℕ, _+_, _≤_, _<_}
+use Prim.Native.Nat.{ℕ, _+_, _<_}
 use native.Mathlib.Omega.{arith}
 use lib.Dec.{eqb}
-use lib.ListN.{getD, take}
+use lib.ListN.{getD}
 use Rattle.keys.specs.declared.numbers.TekNumber.{TekNumber}
-use Rattle.keys.specs.declared.traffic.TrafficKey.{TrafficKey}
 use Rattle.keys.specs.declared.refusal.Answer.{Answer}
 use Rattle.keys.specs.declared.refusal.Answer.the-variants.{Done, Refused}
-use Rattle.keys.specs.declared.refusal.Refusal.{Refusal}
-use Rattle.keys.specs.Refusal.{answerNumber, isDone}
+use Rattle.keys.specs.Refusal.{isDone}
 use Rattle.keys.specs.Suites.{widthOf}
-use Rattle.keys.specs.Sealing.{Sealed, KeyOut, keyOut}
+use Rattle.keys.specs.Sealing.{Sealed, keyOut}
 use Rattle.keys.proofs.TestLaws.{both}
 use Rattle.keys.proofs.AnswerLaws.{is-done}
 use Rattle.association.specs.declared.record.Assoc.{Assoc}
 use Rattle.association.specs.declared.listing.Listing.{Listing}
-use Rattle.association.specs.Made.{Made, Line, keyOf, recordOf}
-use Rattle.association.proofs.RecordLaws.{InLimits}
+use Rattle.association.specs.Made.{Made, keyOf, recordOf}
 use Rattle.records.specs.Records.{none}
 use Rattle.wire.specs.declared.fields.Fields.{Fields}
-use Rattle.wire.specs.declared.fields.Params.{Params}
-use Rattle.wire.specs.declared.fields.Reading.{Reading}
 use Rattle.wire.specs.declared.fields.Receiver.the-variants.{Modem as AtModem}
-use Rattle.wire.specs.Messages.{codeOf, messageAnswer}
-use Rattle.wire.specs.Reading.{takenOf, readingFor, readOf}
+use Rattle.wire.specs.Messages.{codeOf}
+use Rattle.wire.specs.Reading.{takenOf}
 use Rattle.wire.proofs.MessageAnswers.{read-answer}
 use Rattle.headend_steps.specs.declared.state.HeadEnd.{HeadEnd}
-use Rattle.headend_steps.specs.Search.{halfIn}
 use Rattle.headend_steps.specs.Answers.{paramsAt, keyReply}
 use Rattle.headend.specs.Calls as Head
 use Rattle.headend.specs.FrameCalls as HeadFrames
 use Rattle.headend.specs.Minting.{namedPairs, acceptedList}
 use Rattle.headend.specs.Run.{acceptedIf}
 use Rattle.headend.proofs.AnswersSent.{request}
-use Rattle.headend.proofs.AnswerCases.{placeOf, KeyReplied}
+use Rattle.headend.proofs.AnswerCases.{placeOf}
 use Rattle.headend.proofs.Refused.{list-refused-same}
 use Rattle.headend.proofs.StateLaws.{list-state, clock-state, receive-base}
 use Rattle.headend.proofs.RunLaws.{by-answer, clock-forward}
@@ -50,10 +44,10 @@ use Rattle.modem.proofs.FrameKept.{clock-fits}
 use Rattle.plant.specs.World.{World, Step, list, clock, up, sealDown, openUp, Frame, frameIf, oneIf, clockedBy, clockAnswers}
 use Rattle.plant.specs.Run.{Did, didOf}
 use Rattle.plant.specs.KeysMade.{clockIf}
-use Rattle.plant.proofs.LogLaws.{Log, MadeIn, Grows, logsListed, logsTo, grows-same, grows-listed, grows-clocked}
+use Rattle.plant.proofs.LogLaws.{Log, logsListed, logsTo, grows-same, grows-listed, grows-clocked}
 use Rattle.plant.proofs.MadeRun.{logsBy}
-use Rattle.plant.proofs.Copies.{PairCopied, ParamsSent, ReplySent, PutOk, FrameOk, outOf}
-use Rattle.plant.proofs.HeadOk.{HeadOk, RecordLog, log-at, log-limits, shaped-at}
+use Rattle.plant.proofs.Copies.{PairCopied, ParamsSent, ReplySent, FrameOk}
+use Rattle.plant.proofs.HeadOk.{log-at, log-limits, shaped-at}
 use Rattle.plant.proofs.HeadSteps.{list-ok, list-refused-ok, clock-ok, receive-ok, open-ok}
 use Rattle.plant.proofs.Inv.{Inv, Next, next-by, next-to, pairs-grow, nothing-put, nothing-sealed}
 

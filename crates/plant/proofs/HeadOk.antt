@@ -2,12 +2,11 @@
 -- SAID that an entry lists has its record.
 use mathlib.Core.Path.{_≡_, refl, sym, _∙_, ap, subst}
 use mathlib.Core.Logic.{_⊎_, inl, inr}
-use mathlib.Core.Bool.{Bool, true, false, _&&_, _||_}
+use mathlib.Core.Bool.{Bool, true, false, _||_}
 use mathlib.Core.List.{List, [], _∷_, map, List·Memᴰ, List·Memᴰ·head, List·Memᴰ·tail}
 use Prim.Native.Nat.{ℕ, zero, suc, _+_, _<_, _≤_}
 use native.Mathlib.Omega.{arith}
-use lib.Dec.{ltb, eqb}
-use lib.ListN.{length, getD, take}
+use lib.ListN.{length, getD}
 use lib.Seq.{getD-take}
 use borrow.Author.Tests.{lt-ltb, eq-eqb, eqb-true}
 use Rattle.keys.proofs.TestLaws.{both}
@@ -15,7 +14,7 @@ use Rattle.keys.proofs.ListLaws.{Each}
 use Rattle.association.specs.declared.record.Assoc.{Assoc}
 use Rattle.association.specs.declared.listing.Listing.{Listing}
 use Rattle.association.specs.declared.search.Probe.the-variants.{OfSaid}
-use Rattle.association.specs.Made.{Made, Line, recordOf}
+use Rattle.association.specs.Made.{Made, recordOf}
 use Rattle.association.proofs.MadeLaws.{Follows}
 use Rattle.association.proofs.RecordLaws.{InLimits}
 use Rattle.wire.proofs.HoldsLaws.{never}
@@ -25,9 +24,7 @@ use Rattle.headend_steps.specs.declared.state.Entry.{Entry}
 use Rattle.headend_steps.specs.declared.state.HeadEnd.{HeadEnd}
 use Rattle.headend_steps.specs.State.{noEntry}
 use Rattle.headend_steps.specs.Entries.{entriesOf, knownOf, lists, listsAt, listsSuite, saidAt, suiteAt}
-use Rattle.headend_steps.specs.Search.{halfIn}
-use Rattle.headend_steps.specs.Frames.{isOwn}
-use Rattle.headend_steps.proofs.ListingLaws.{ListingIn, listed-at}
+use Rattle.headend_steps.proofs.ListingLaws.{listed-at}
 use Rattle.headend_steps.proofs.LimitsLaws.{known-place, known-in, entry-facts}
 use Rattle.headend_steps.proofs.AnswersRead.{ShapedRecord}
 use Rattle.headend.specs.Within.{Within, Recorded}

@@ -1,11 +1,10 @@
 -- The head-end's calls keep what holds of it at every step (`HeadOk`), with the logs that they make.
 use mathlib.Core.Path.{_≡_, refl, sym, _∙_, ap, subst}
 use mathlib.Core.Bool.{true}
-use mathlib.Core.List.{List, [], _∷_, _++_, map, map-append, List·Memᴰ}
-use Prim.Native.Nat.{ℕ, _+_, _<_, _≤_}
+use mathlib.Core.List.{List, [], _++_, map-append, List·Memᴰ}
+use Prim.Native.Nat.{ℕ, _+_}
 use native.Mathlib.Omega.{arith}
 use lib.ListN.{length, getD, take, length-set}
-use Rattle.keys.specs.declared.refusal.Answer.{Answer}
 use Rattle.keys.specs.declared.refusal.Answer.the-variants.{Done, Refused}
 use Rattle.keys.specs.declared.refusal.Refusal.{Refusal}
 use Rattle.keys.specs.declared.settings.Settings.{Settings}
@@ -15,17 +14,16 @@ use Rattle.keys.specs.declared.numbers.TekNumber.{TekNumber}
 use Rattle.keys.proofs.ListLaws.{Each, each-nil, each-cons}
 use Rattle.association.specs.declared.record.Assoc.{Assoc}
 use Rattle.association.specs.declared.listing.Listing.{Listing}
-use Rattle.association.specs.Made.{SaidSuite, Line, listedLines, linesTo}
+use Rattle.association.specs.Made.{Line, listedLines}
 use Rattle.association.proofs.MadeLaws.{Follows}
-use Rattle.records.specs.Records.{none, firstOf}
+use Rattle.records.specs.Records.{none}
 use Rattle.records.proofs.RecordsLaws.{passed-hit}
 use Rattle.headend_steps.specs.declared.state.Entry.{Entry}
 use Rattle.headend_steps.specs.declared.state.HeadEnd.{HeadEnd}
-use Rattle.headend_steps.specs.State.{freshOf, noEntry, withClock}
-use Rattle.headend_steps.specs.Entries.{entriesOf, knownOf, saidAt}
+use Rattle.headend_steps.specs.State.{freshOf, withClock}
+use Rattle.headend_steps.specs.Entries.{entriesOf, knownOf}
 use Rattle.headend_steps.specs.Listing.{grown}
 use Rattle.headend_steps.specs.Search.{oneOf}
-use Rattle.headend_steps.specs.Answers.{stateAfter}
 use Rattle.headend_steps.proofs.ListingLaws.{listing-facts, unnamed}
 use Rattle.headend.specs.Calls.{newOf, listOf, listRecords, clockOf, clockRecords, receiveOf}
 use Rattle.headend.specs.Minting.{namedPairs}
@@ -35,9 +33,9 @@ use Rattle.headend.proofs.CallsLaws.{AskedList, list-met}
 use Rattle.headend.proofs.KeptLimits.{new-within, list-within, clock-within, receive-within}
 use Rattle.headend.proofs.StateLaws.{list-state, clock-state}
 use Rattle.headend.proofs.MintLaws.{Shows, shows-same, list-shows, clock-shows, receive-shows}
-use Rattle.headend.proofs.Refused.{list-refused-same, clock-refused-same}
+use Rattle.headend.proofs.Refused.{list-refused-same}
 use Rattle.headend.proofs.RunShows.{fresh-shows}
-use Rattle.headend.proofs.FrameAnswers.{SameButCounts, same-within, open-same}
+use Rattle.headend.proofs.FrameAnswers.{same-within, open-same}
 use Rattle.plant.proofs.LogLaws.{Log, linesIn, logsTo, logsListed, lines-listed, lines-to, listed-good, to-good}
 use Rattle.plant.proofs.SaidLaws.{saidsIn, Different, each-append, different-append, saids-clocked, saids-listed}
 use Rattle.plant.proofs.EntryLogs.{Logged, EntriesLogged, log-listed, log-right, log-clocked, new-logged, grown-entries, rekeyed-logged, receive-state}

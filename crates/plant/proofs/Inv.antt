@@ -1,5 +1,5 @@
 -- What holds of the two ends and the trace at every step of a list that counts, and how a step goes on with it.
-use mathlib.Core.Path.{_≡_, refl, sym, _∙_, ap, subst}
+use mathlib.Core.Path.{_≡_, sym, subst}
 use mathlib.Core.Bool.{true}
 use mathlib.Core.List.{List, [], _∷_, _++_, List·Memᴰ}
 use Prim.Native.Nat.{ℕ, _≤_}
@@ -9,7 +9,7 @@ use Rattle.modem_steps.specs.declared.state.Modem.{Modem}
 use Rattle.modem_steps.specs.State.{slotAt}
 use Rattle.modem.specs.Limits.{modemFits}
 use Rattle.modem.proofs.PairSteps.{AllPairs}
-use Rattle.plant.specs.World.{World, Step, Frame}
+use Rattle.plant.specs.World.{World, Step}
 use Rattle.plant.specs.Run.{Did, didOf, after}
 use Rattle.plant.specs.KeysMade.{acceptedIn}
 use Rattle.plant.proofs.LogLaws.{Log, Grows}

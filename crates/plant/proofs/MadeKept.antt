@@ -1,16 +1,15 @@
 -- Each log holds the keys made of its SAID, in order, and its line the last two of them: kept by listings and by the clock.
 use mathlib.Core.Path.{_≡_, refl, sym, _∙_, ap, subst}
-use mathlib.Core.Logic.{_⊎_, inl, inr}
 use mathlib.Core.Bool.{Bool, true, false}
 use mathlib.Core.List.{List, [], _∷_, _++_, map, append-assoc, append-nil, List·Memᴰ, List·Memᴰ·head, List·Memᴰ·tail, Memᴰ·append-left}
 use Prim.Native.Nat.{ℕ, _+_}
 use lib.Dec.{ltb}
 use Rattle.keys.proofs.ListLaws.{Each, each-nil, each-cons}
-use Rattle.association.specs.Made.{Made, SaidSuite, Line, listedLine, listedLines, bothOf, mints, mintsBy, mintsAll, pushedAll, Accepted, madeBy, linesAfter, keysMadeFrom}
+use Rattle.association.specs.Made.{Made, SaidSuite, Line, listedLine, listedLines, bothOf, mints, mintsBy, mintsAll, pushedAll, Accepted, madeBy, keysMadeFrom}
 use Rattle.association.specs.Made.{listing as madeByListing, clock as madeByClock}
 use Rattle.plant.specs.KeysMade.{ofSaid, saidsOf, saidsListed}
-use Rattle.plant.proofs.LogLaws.{Log, linesIn, logTo, logListed, logsTo, logsListed, to-said}
-use Rattle.plant.proofs.SaidLaws.{saidsIn, Different, each-append, said-in, saids-clocked, saids-listed}
+use Rattle.plant.proofs.LogLaws.{Log, linesIn, logsTo, logsListed, to-said}
+use Rattle.plant.proofs.SaidLaws.{saidsIn, Different, each-append, said-in, saids-clocked}
 use Rattle.plant.proofs.EntryLogs.{mem-right}
 use Rattle.plant.proofs.MadeRun.{logsAfter, logsBy, lines-after, saids-after, of-append, of-own, of-others}
 

@@ -1,17 +1,16 @@
 -- The logs of a list of accepted calls are the keys made, SAID by SAID.
-use mathlib.Core.Path.{_≡_, refl, sym, _∙_, ap, subst}
-use mathlib.Core.Logic.{_⊎_, inl, inr}
+use mathlib.Core.Path.{_≡_, refl, sym, _∙_, ap}
 use mathlib.Core.Bool.{Bool, true, false}
-use mathlib.Core.List.{List, [], _∷_, _++_, map, map-append, append-assoc, append-nil, List·Memᴰ, List·Memᴰ·head, List·Memᴰ·tail}
+use mathlib.Core.List.{List, [], _∷_, _++_, map-append, append-assoc, append-nil, List·Memᴰ·head, List·Memᴰ·tail}
 use Prim.Native.Nat.{ℕ, _+_}
-use lib.Dec.{eqb, ltb}
+use lib.Dec.{eqb}
 use borrow.Author.Tests.{eq-eqb, ne-eqb}
-use Rattle.keys.proofs.ListLaws.{Each, each-nil, each-cons}
-use Rattle.association.specs.Made.{Made, SaidSuite, Line, listedLine, listedLines, bothOf, mints, mintsBy, mintsAll, pushedAll, lineTo, linesTo, Accepted, madeBy, linesAfter, keysMadeFrom}
+use Rattle.keys.proofs.ListLaws.{Each}
+use Rattle.association.specs.Made.{Made, Line, Accepted, linesAfter}
 use Rattle.association.specs.Made.{listing as madeByListing, clock as madeByClock}
 use Rattle.plant.specs.KeysMade.{keepIf, ofSaid, saidsOf, saidsListed}
-use Rattle.plant.proofs.LogLaws.{Log, linesIn, logTo, logListed, logsTo, logsListed, lines-listed, lines-to, to-said}
-use Rattle.plant.proofs.SaidLaws.{saidsIn, Different, append-cases, each-append, saids-clocked, saids-listed}
+use Rattle.plant.proofs.LogLaws.{Log, linesIn, logsTo, logsListed, lines-listed, lines-to}
+use Rattle.plant.proofs.SaidLaws.{saidsIn, saids-clocked, saids-listed}
 
 -- ---- the logs of accepted calls
 abbrev pub logsAfter : ℕ → List Log → Accepted → List Log

@@ -5,7 +5,7 @@ use Prim.Native.Nat.{ℕ, _+_, _*_, _%_, _≤_, _<_}
 use native.Mathlib.Omega.{arith}
 use native.Mathlib.Nat.{mul-le-mul-right}
 use Rattle.association.specs.Made.{Made, Line}
-use Rattle.association.proofs.MadeLaws.{Paced, Follows}
+use Rattle.association.proofs.MadeLaws.{Follows}
 
 -- deadlines rise by at least H a generation, n generations on
 rise-far : (half n : ℕ) (a b : Made) → a .deadline + b .generation * half ≤ b .deadline + a .generation * half → a .generation + n ≤ b .generation

@@ -1,9 +1,9 @@
 -- The modem's steps go on with the invariant: what it holds are copies of keys made.
 use mathlib.Core.Path.{_≡_, refl, sym, _∙_, ap, subst}
-use mathlib.Core.Logic.{_⊎_, inl, inr}
-use mathlib.Core.Bool.{Bool, true, _&&_}
-use mathlib.Core.List.{List, [], _∷_, List·Memᴰ, List·Memᴰ·head, List·Memᴰ·tail}
-use Prim.Native.Nat.{ℕ, _+_, _≤_, _<_}
+use mathlib.Core.Logic.{inl, inr}
+use mathlib.Core.Bool.{Bool, true}
+use mathlib.Core.List.{List, List·Memᴰ, List·Memᴰ·head, List·Memᴰ·tail}
+use Prim.Native.Nat.{ℕ, _+_, _≤_}
 use native.Mathlib.Omega.{arith}
 use lib.Dec.{eqb}
 use lib.ListN.{take}
@@ -20,19 +20,17 @@ use Rattle.wire.specs.Messages.{codeOf}
 use Rattle.wire.specs.Fields.{fieldsOf}
 use Rattle.wire.specs.Reading.{takenOf}
 use Rattle.machines.specs.Tek.{keyOf, pairOf}
-use Rattle.modem_steps.specs.declared.state.Modem.{Modem}
 use Rattle.modem_steps.specs.Receive.{paramsWide, fieldsIn}
 use Rattle.modem.specs.Calls as Mdm
-use Rattle.modem.specs.Frames.{machineOf, sealOf, openOf}
-use Rattle.modem.proofs.PairSteps.{AllPairs, SameRest}
+use Rattle.modem.specs.Frames.{machineOf, sealOf}
 use Rattle.modem.proofs.PairLaws.{KeyReplyTaken, replySlot, established-pairs, reauth-pairs, receive-pairs, established-keeps, reauth-keeps, receive-keeps}
 use Rattle.modem.proofs.FrameLaws.{SealFacts, seal-facts}
-use Rattle.modem.proofs.FrameKept.{SameButCounts, open-pairs, open-keeps, open-fits, established-fits, reauth-fits, receive-fits}
+use Rattle.modem.proofs.FrameKept.{open-pairs, open-keeps, open-fits, established-fits, reauth-fits, receive-fits}
 use Rattle.headend_steps.specs.Limits.{addressFits}
-use Rattle.plant.specs.World.{World, Step, established, reauth, down, sealUp, openDown, Frame, frameIf}
+use Rattle.plant.specs.World.{World, established, reauth, down, sealUp, openDown, Frame, frameIf}
 use Rattle.plant.specs.Run.{Did, didOf, Copy, Allowed}
 use Rattle.plant.proofs.LogLaws.{Log, MadeIn, grows-same}
-use Rattle.plant.proofs.Copies.{Copied, PairCopied, ParamsSent, FrameOk, SealedOk, outOf}
+use Rattle.plant.proofs.Copies.{Copied, PairCopied, ParamsSent, FrameOk}
 use Rattle.plant.proofs.Inv.{Inv, Next, next-by, nothing-put, nothing-sealed}
 
 -- ---- a Key Reply that is taken brings copies

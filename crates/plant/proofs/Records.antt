@@ -3,20 +3,17 @@
 use mathlib.Core.Path.{_≡_, refl, sym, _∙_, ap, subst}
 use mathlib.Core.Bool.{true}
 use mathlib.Core.List.{List, [], _∷_, _++_, map}
-use Prim.Native.Nat.{ℕ, _+_, _*_, _<_, _≤_}
-use native.Mathlib.Omega.{arith}
-use lib.ListN.{getD, take}
+use Prim.Native.Nat.{ℕ, _+_, _≤_}
 use Rattle.keys.specs.declared.settings.Settings.{Settings}
 use Rattle.keys.specs.Settings.{halfOf, settingsFit}
 use Rattle.keys.proofs.ListLaws.{each-nil}
 use Rattle.association.specs.declared.record.Assoc.{Assoc}
-use Rattle.association.specs.Made.{Made, Line, Accepted, keysMade, recordOf}
-use Rattle.records.specs.Records.{none}
+use Rattle.association.specs.Made.{Accepted, keysMade, recordOf}
 use Rattle.headend_steps.specs.declared.state.HeadEnd.{HeadEnd}
 use Rattle.headend_steps.specs.Limits.{addressFits}
 use Rattle.plant.specs.World.{World, fresh, Step}
 use Rattle.plant.specs.Run.{Did, didOf, after, worldAfter, Counts}
-use Rattle.plant.specs.KeysMade.{ofSaid, saidsListed, LastTwo, ShowsLast, acceptedIn, acceptedBy}
+use Rattle.plant.specs.KeysMade.{ofSaid, ShowsLast, acceptedIn, acceptedBy}
 use Rattle.plant.proofs.LogLaws.{Log, linesIn}
 use Rattle.plant.proofs.SaidLaws.{saidsIn, Different}
 use Rattle.plant.proofs.MadeRun.{logsBy, logs-append, saids-by}

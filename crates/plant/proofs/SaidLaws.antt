@@ -1,11 +1,11 @@
 -- The SAIDs of the logs are all different, and stay so; one SAID has one log.
-use mathlib.Core.Path.{_≡_, refl, sym, _∙_, ap, subst}
+use mathlib.Core.Path.{_≡_, refl, sym, _∙_, ap}
 use mathlib.Core.Logic.{_⊎_, inl, inr}
 use mathlib.Core.List.{List, [], _∷_, _++_, map, List·Memᴰ, List·Memᴰ·head, List·Memᴰ·tail}
 use Prim.Native.Nat.{ℕ, _+_}
-use Rattle.keys.proofs.ListLaws.{Each, each-nil, each-cons}
+use Rattle.keys.proofs.ListLaws.{Each}
 use Rattle.association.specs.Made.{SaidSuite}
-use Rattle.plant.proofs.LogLaws.{Log, logTo, logListed, logsTo, logsListed, to-said, Apart}
+use Rattle.plant.proofs.LogLaws.{Log, logsTo, logsListed, to-said, Apart}
 
 abbrev pub saidsIn : List Log → List ℕ
 saidsIn gs = map (λ (g : Log). g .line .said) gs

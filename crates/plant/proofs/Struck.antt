@@ -2,7 +2,7 @@
 use mathlib.Core.Path.{_≡_, refl, sym, _∙_, ap, subst}
 use mathlib.Core.Bool.{Bool, true, false, _&&_}
 use mathlib.Core.List.{List, [], _∷_, _++_, map}
-use Prim.Native.Nat.{ℕ, _+_, _*_, _<_, _≤_}
+use Prim.Native.Nat.{ℕ, _+_, _<_, _≤_}
 use native.Mathlib.Omega.{arith}
 use lib.ListN.{length, getD, length-take}
 use lib.Seq.{getD-take, map-set-same}
@@ -16,7 +16,6 @@ use Rattle.association.specs.declared.record.Assoc.{Assoc}
 use Rattle.association.specs.declared.listing.Listing.{Listing}
 use Rattle.association.specs.Made.{Accepted, keysMade}
 use Rattle.association.specs.Made.{listing as madeByListing}
-use Rattle.headend_steps.specs.declared.state.Entry.{Entry}
 use Rattle.headend_steps.specs.declared.state.HeadEnd.{HeadEnd}
 use Rattle.headend_steps.specs.State.{noEntry}
 use Rattle.headend_steps.specs.Entries.{entriesOf, knownOf}
@@ -31,8 +30,8 @@ use Rattle.modem.specs.Calls as Mdm
 use Rattle.modem.proofs.PairLaws.{established-keeps, reauth-keeps, receive-keeps, clock-done}
 use Rattle.modem.proofs.FrameKept.{open-keeps, clock-depends}
 use Rattle.plant.specs.World.{World, fresh, Step, list, clock, established, reauth, up, down, sealDown, sealUp, openUp, openDown, clockAnswers, clockedBy}
-use Rattle.plant.specs.Run.{Did, didOf, after, Allowed, Counts}
-use Rattle.plant.specs.KeysMade.{acceptedIn, acceptedBy, keptStep, struck, clockIf}
+use Rattle.plant.specs.Run.{Did, after, Counts}
+use Rattle.plant.specs.KeysMade.{acceptedIn, acceptedBy, struck, clockIf}
 use Rattle.plant.proofs.LogLaws.{Log}
 use Rattle.plant.proofs.EntryLogs.{receive-state}
 use Rattle.plant.proofs.Alike.{bare, Alike, list-answers, list-alike, list-records, clock-answers, clock-alike, clock-records}

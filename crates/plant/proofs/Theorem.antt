@@ -1,13 +1,12 @@
 -- Demand 3, part 1: in every list of steps that counts, each delivered frame is opened with the very key that its own sealing gave, or refused
 -- with 13 or 10.
-use mathlib.Core.Path.{_≡_, refl, sym, _∙_, ap, subst}
-use mathlib.Core.Logic.{_⊎_, inl, inr}
-use mathlib.Core.Bool.{Bool, true, _&&_}
-use mathlib.Core.List.{List, [], _∷_, _++_, List·Memᴰ, List·Memᴰ·head, List·Memᴰ·tail}
-use Prim.Native.Nat.{ℕ, _+_, _*_, _≤_, _<_}
+use mathlib.Core.Path.{_≡_, refl, sym, subst}
+use mathlib.Core.Bool.{true}
+use mathlib.Core.List.{List, [], _∷_, List·Memᴰ, List·Memᴰ·head, List·Memᴰ·tail}
+use Prim.Native.Nat.{ℕ, _+_, _*_, _≤_}
 use native.Mathlib.Omega.{arith}
-use lib.Dec.{leb, ltb}
-use borrow.Author.Tests.{le-leb, lt-ltb, ltb-true}
+use lib.Dec.{leb}
+use borrow.Author.Tests.{le-leb}
 use Rattle.keys.specs.declared.numbers.TekNumber.{TekNumber}
 use Rattle.keys.specs.declared.settings.Settings.{Settings}
 use Rattle.keys.specs.declared.refusal.Answer.the-variants.{Done}
@@ -24,12 +23,11 @@ use Rattle.modem_steps.specs.declared.state.Modem.{Modem}
 use Rattle.modem_steps.specs.State as ModemState
 use Rattle.modem.proofs.CallLaws.{new-fits}
 use Rattle.modem.proofs.PairSteps.{fresh-pairs}
-use Rattle.plant.specs.World.{World, fresh, Step, list, clock, established, reauth, up, down, sealDown, sealUp, openUp, openDown, Frame, Opening}
-use Rattle.plant.specs.Run.{Did, didOf, after, Allowed, Counts}
+use Rattle.plant.specs.World.{World, fresh, Step, list, clock, established, reauth, up, down, sealDown, sealUp, openUp, openDown}
+use Rattle.plant.specs.Run.{Did, didOf, Allowed, Counts}
 use Rattle.plant.specs.Claim.{Delivers, Agree, AgreesWith, Agrees}
 use Rattle.plant.proofs.LogLaws.{Log}
 use Rattle.plant.proofs.Copies.{PairCopied}
-use Rattle.plant.proofs.HeadOk.{HeadOk}
 use Rattle.plant.proofs.HeadSteps.{fresh-ok}
 use Rattle.plant.proofs.Inv.{Inv, Next}
 use Rattle.plant.proofs.HeadNext.{list-next, clock-next, up-next, seal-down-next, open-up-next}

@@ -6,7 +6,6 @@ use mathlib.Core.List.{List, [], _∷_, _++_, map}
 use Prim.Native.Nat.{ℕ, _<_}
 use lib.Dec.{eqb}
 use lib.ListN.{getD, take}
-use Rattle.keys.specs.declared.refusal.Answer.{Answer}
 use Rattle.association.specs.declared.record.Assoc.{Assoc}
 use Rattle.association.specs.Made.{Made, SaidSuite, Accepted, keyOf, keysMade}
 use Rattle.association.specs.Made.{listing as madeByListing, clock as madeByClock}

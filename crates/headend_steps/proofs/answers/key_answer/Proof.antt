@@ -1,5 +1,5 @@
 -- `headend_steps::answers::key_answer` meets its contract.
-use mathlib.Core.Path.{_≡_, sym, _∙_, ap}
+use mathlib.Core.Path.{sym, _∙_}
 use borrow.Author.Tests.{not-true, not-false}
 use Rattle.headend_steps.proofs.AnswersLaws.{key-unlisted, key-inactive, key-digest, key-foreign, key-granted}
 use borrow.Author.Needs.{needs}

@@ -1,5 +1,5 @@
 -- `headend_steps::authorization::granted` meets its contract.
-use mathlib.Core.Path.{_≡_, sym, _∙_, ap}
+use mathlib.Core.Path.{_∙_, ap}
 use Prim.Native.Nat.{_+_}
 use native.Mathlib.Omega.{arith}
 use Rattle.keys.specs.declared.numbers.AkNumber.{AkNumber}

@@ -1,9 +1,9 @@
 -- `headend_steps::clock::clock_called` meets its contract.
-use mathlib.Core.Path.{_≡_, sym, _∙_, ap}
+use mathlib.Core.Path.{sym, _∙_, ap}
 use borrow.Author.Tests.{not-true, not-false}
 use Rattle.keys.specs.declared.refusal.Answer.{Answer}
 use Rattle.headend_steps.specs.declared.state.HeadEnd.{HeadEnd}
-use Rattle.headend_steps.specs.State.{withClock, answeredCall}
+use Rattle.headend_steps.specs.State.{answeredCall}
 use Rattle.headend_steps.specs.Clock.{clockFor, clockCalled}
 use Rattle.headend_steps.proofs.AskedLaws.{clock-refused, clock-moved}
 use borrow.Author.Needs.{needs}

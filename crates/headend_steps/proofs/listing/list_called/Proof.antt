@@ -1,5 +1,5 @@
 -- `headend_steps::listing::list_called` meets its contract.
-use mathlib.Core.Path.{_≡_, sym, _∙_, ap}
+use mathlib.Core.Path.{sym, _∙_, ap}
 use borrow.Author.Tests.{not-true, not-false}
 use Rattle.keys.specs.declared.refusal.Answer.{Answer}
 use Rattle.keys.proofs.AnswerLaws.{is-done}
