@@ -1,5 +1,5 @@
-// The head-end's calls, in document 01's order. A refusal changes and writes nothing. The functions over records are straight lines:
-// every decision is made by a function of `headend_steps` on values.
+// The head-end's calls but those on frames, in document 01's order. A refusal changes and writes nothing. The functions over records
+// are straight lines: every decision is made by a function of `headend_steps` on values.
 ghost use mathlib.Core.Path.{_≡_};
 ghost use lib.ListN.{length};
 ghost use Rattle.keys.specs.Octets.{overlay};

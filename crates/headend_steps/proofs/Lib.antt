@@ -9,3 +9,4 @@ pub mod AnswerFields
 pub mod AnswerFits
 pub mod AnswersRead
 pub mod PutLaws
+pub mod FrameCallLaws

@@ -8,3 +8,4 @@ pub mod Clock
 pub mod Answers
 pub mod Receive
 pub mod Frames
+pub mod FrameCalled

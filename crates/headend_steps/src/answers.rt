@@ -41,7 +41,7 @@ fn life_left(clock: u64, deadline: u64) -> u64
 }
 
 // An answer that carries an error, or none at all.
-fn error_answer(code: u8, identifier: u8, ak: AkNumber, said: u16, error: u8) -> Fields
+pub fn error_answer(code: u8, identifier: u8, ak: AkNumber, said: u16, error: u8) -> Fields
     ensures { λ r. ⌜ r ≡ errorAnswer code identifier ak said error ⌝ }
 {
     let none = no_params();

@@ -90,7 +90,7 @@ fn receive_answer(
 }
 
 // Writes an answer, where there is one; how many octets is handed back.
-fn put_answer(f: Fields, key: &[u8], out: &mut [u8]) -> usize
+pub fn put_answer(f: Fields, key: &[u8], out: &mut [u8]) -> usize
     requires { ⌜ Writable f (now key) (length (now out)) ⌝ }
     ensures { λ n. ⌜ (n ≡ length (answerOctets f (now (key .entry)))) × (now (out .exit) ≡ overlay (now (out .entry)) (answerOctets f (now (key .entry)))) ⌝ }
 {

@@ -1,5 +1,6 @@
 // What the calls look for in the lent records.
 ghost use mathlib.Core.Path.{_≡_};
+ghost use Rattle.association.specs.declared.search.Probe.the-variants.{OfSaid};
 ghost use Rattle.headend_steps.specs.Search.{halfIn, outOfLimits, oneOf, ofRequest};
 use crate::state::HeadEnd;
 use association::listing::Listing;
@@ -37,4 +38,11 @@ pub fn of_request(r: Reading) -> Probe
 {
     let f = r.fields;
     Probe::OfSaid(f.said)
+}
+
+// The record of a SAID.
+pub fn of_said(said: u16) -> Probe
+    ensures { λ p. ⌜ p ≡ OfSaid said ⌝ }
+{
+    Probe::OfSaid(said)
 }

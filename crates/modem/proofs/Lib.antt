@@ -17,4 +17,5 @@ pub mod ModemRows
 pub mod PairSteps
 pub mod PairLaws
 pub mod FrameLaws
+pub mod FrameCalledLaws
 pub mod FrameKept

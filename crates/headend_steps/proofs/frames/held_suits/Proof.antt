@@ -1,0 +1,31 @@
+-- `headend_steps::frames::held_suits` meets its contract.
+use borrow.Author.Needs.{needs}
+use Rattle.headend_steps.specs.Frames.{heldSuits}
+use Rattle.headend_steps.proofs.frames.held_suits.Statement.{statement}
+use Rattle.headend_steps.proofs.frames.held_suits.Tie as tie
+
+is-own-requires : tie.Need-is-own-requires
+is-own-requires c κs = search needs
+
+half-in-requires : tie.Need-half-in-requires
+half-in-requires c κs = search needs
+
+record-fits-requires : tie.Need-record-fits-requires
+record-fits-requires c κs = search needs
+
+is-listing-suite-requires : tie.Need-is-listing-suite-requires
+is-listing-suite-requires c κs = search needs
+
+returns : tie.Need-returns
+unfolding heldSuits
+returns c = cc
+
+pub held-suits-spec : {M : Type 1} → statement M
+held-suits-spec =
+    tie.close
+    (tie.spec
+    is-own-requires
+    half-in-requires
+    record-fits-requires
+    is-listing-suite-requires
+    returns)
