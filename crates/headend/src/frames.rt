@@ -3,17 +3,18 @@
 ghost use mathlib.Core.Path.{_≡_};
 ghost use lib.ListN.{length};
 ghost use Rattle.keys.specs.Octets.{overlay};
-ghost use Rattle.headend_steps.specs.FrameCalled.{sealCalled, openCalled};
+ghost use Rattle.keys.specs.Sealing.{sealCalled};
+ghost use Rattle.headend_steps.specs.FrameCalled.{openCalled};
 ghost use Rattle.headend.specs.FrameCalls.{sealOf, openOf};
 use association::record::Assoc;
 use headend_steps::frames::OpenedCall;
-use headend_steps::frames::SealedCall;
 use headend_steps::frames::open_called;
 use headend_steps::frames::seal_called;
 use headend_steps::search::of_said;
 use headend_steps::search::out_of_limits;
 use headend_steps::state::HeadEnd;
 use keys::numbers::TekNumber;
+use keys::sealing::SealedCall;
 use records::first;
 use records::lookup;
 

@@ -19,7 +19,7 @@ use Rattle.keys.specs.Suites.{widthOf}
 use Rattle.keys.specs.Questions.{Question}
 use Rattle.keys.specs.Refusal.{numberOf, answerNumber, isDone}
 use Rattle.keys.specs.Frame.{serves}
-use Rattle.keys.specs.Sealing.{KeyOut, keyOut, Sealed, sealedFor, openedBy}
+use Rattle.keys.specs.Sealing.{KeyOut, keyOut, Sealed, sealedFor, openedBy, sealCalled}
 use Rattle.keys.proofs.AnswerLaws.{done-met, is-done, number-done}
 use Rattle.keys.proofs.TestLaws.{both}
 use Rattle.association.specs.declared.search.Found.{Found}
@@ -31,13 +31,13 @@ use Rattle.wire.specs.Limits.{keyOctetsZero, paramsZero, descriptorZero, placeF
 use Rattle.wire.specs.Writing.{itemsOfType, itemsOfTypes, itemsOf, message, messageOf, noDigest}
 use Rattle.headend_steps.specs.declared.state.HeadEnd.{HeadEnd}
 use Rattle.headend_steps.specs.declared.entries.Known.{Known}
-use Rattle.headend_steps.specs.declared.frames.SealedCall.{SealedCall}
+use Rattle.keys.specs.declared.sealing.SealedCall.{SealedCall}
 use Rattle.headend_steps.specs.declared.frames.OpenedCall.{OpenedCall}
 use Rattle.headend_steps.specs.Entries.{knownOf}
 use Rattle.headend_steps.specs.Limits.{addressFits, headFits as stateFits}
 use Rattle.headend_steps.specs.Receive.{answerOctets, Writable}
 use Rattle.headend_steps.specs.Frames.{isOwn, heldSuits, frameFits, sealAnswer, openAnswer, openingIn, countedBy, invalidFields, invalidOctets, HeadOpened, openedFor}
-use Rattle.headend_steps.specs.FrameCalled.{sealCalled, openCalled, Openable}
+use Rattle.headend_steps.specs.FrameCalled.{openCalled, Openable}
 
 -- ---- what the passed questions say
 module _ (h : HeadEnd) (bad len : ℕ) (s : Found) (address said : ℕ) where

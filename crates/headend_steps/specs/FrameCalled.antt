@@ -1,17 +1,11 @@
--- What the head-end's calls on frames hand back of what they give: the octets themselves are in the lent slices, their counts here.
+-- What opening at the head-end hands back of what it gives: the octets themselves are in the lent slices, their counts here.
 use mathlib.Core.Path.{_≡_}
 use Prim.Native.Nat.{ℕ, _≤_}
 use lib.ListN.{length}
 use Rattle.keys.specs.declared.refusal.Answer.{Answer}
 use Rattle.keys.specs.Refusal.{answerNumber}
-use Rattle.keys.specs.Sealing.{Sealed}
-use Rattle.headend_steps.specs.declared.frames.SealedCall.{SealedCall}
 use Rattle.headend_steps.specs.declared.frames.OpenedCall.{OpenedCall}
 use Rattle.headend_steps.specs.Frames.{HeadOpened}
-
--- A key's TEK and its vector are as wide as each other
-abbrev pub sealCalled : Sealed → SealedCall
-sealCalled s = record { answer = s .answer; number = s .number; width = length (s .out .tek) }
 
 abbrev pub openCalled : HeadOpened → OpenedCall
 openCalled o = record { answer = o .answer; state = o .state; width = length (o .out .tek); count = length (o .invalid) }

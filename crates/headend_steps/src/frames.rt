@@ -3,10 +3,10 @@ ghost use mathlib.Core.Path.{_≡_};
 ghost use Prim.Native.Nat.{_≤_};
 ghost use lib.ListN.{length};
 ghost use Rattle.keys.specs.Octets.{overlay};
-ghost use Rattle.keys.specs.Sealing.{keyOut, openedBy, oneMore};
+ghost use Rattle.keys.specs.Sealing.{openedBy, sealCalled};
 ghost use Rattle.headend_steps.specs.Entries.{knownOf};
 ghost use Rattle.headend_steps.specs.Frames.{isOwn, heldSuits, frameFits, sealAnswer, sealedWith, openAnswer, countedBy, invalidOctets, openedFor, openedWith};
-ghost use Rattle.headend_steps.specs.FrameCalled.{sealCalled, openCalled, Openable};
+ghost use Rattle.headend_steps.specs.FrameCalled.{openCalled, Openable};
 use crate::answers::error_answer;
 use crate::authorization::newest;
 use crate::entries::Known;
@@ -26,21 +26,16 @@ use keys::frame::decide;
 use keys::frame::is_serving;
 use keys::numbers::TekNumber;
 use keys::numbers::tek_in_range;
-use keys::octets::put;
 use keys::refusal::Answer;
 use keys::refusal::Refusal;
 use keys::refusal::answer_number;
 use keys::refusal::ask;
 use keys::refusal::is_done;
+use keys::sealing::SealedCall;
+use keys::sealing::one_more;
+use keys::sealing::put_key;
 use keys::suites::width;
 use keys::traffic::TrafficKey;
-
-// What sealing hands back: the answer, the key's number, and how many octets of TEK and of vector were written; 0 where it is refused.
-pub struct SealedCall {
-    pub answer: Answer,
-    pub number: TekNumber,
-    pub width: usize,
-}
 
 // What opening hands back: the answer, the head-end after it, how many octets of TEK and of vector were written, and how many of a
 // TEK Invalid.
@@ -148,16 +143,6 @@ fn open_answer(
     ask(q1, Refusal::OutOfLimits, a2)
 }
 
-// One more frame, up to 2^64 - 1.
-fn one_more(n: u64) -> u64
-    ensures { λ r. ⌜ r ≡ oneMore n ⌝ }
-{
-    if 18446744073709551615 <= n {
-        return n;
-    }
-    n + 1
-}
-
 // The head-end after an opening that is answered with `no`: a frame taken, or refused with 10 or 13, is counted.
 fn counted(no: u8, h: HeadEnd) -> HeadEnd
     ensures { λ r. ⌜ r ≡ countedBy no h ⌝ }
@@ -172,20 +157,6 @@ fn counted(no: u8, h: HeadEnd) -> HeadEnd
         return next;
     }
     h
-}
-
-// The first `w` octets of a key's TEK and vector go to the front of the two slices; how many is handed back.
-fn put_key(k: TrafficKey, w: usize, tek: &mut [u8], vector: &mut [u8]) -> usize
-    requires { ⌜ (w ≤ 16) × (16 ≤ length (now tek)) × (16 ≤ length (now vector)) ⌝ }
-    ensures { λ n. ⌜ (n ≡ length (keyOut w k .tek))
-        × (now (tek .exit) ≡ overlay (now (tek .entry)) (keyOut w k .tek))
-        × (now (vector .exit) ≡ overlay (now (vector .entry)) (keyOut w k .vector)) ⌝ }
-{
-    let tek_octets = k.tek;
-    let vector_octets = k.vector;
-    put(tek_octets, w, tek);
-    put(vector_octets, w, vector);
-    w
 }
 
 // The octets of whichever held key opens the frame.

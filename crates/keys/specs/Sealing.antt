@@ -3,9 +3,10 @@ use mathlib.Core.Bool.{Bool, cond}
 use mathlib.Core.List.{List, []}
 use Prim.Native.Nat.{ℕ, _+_}
 use lib.Dec.{leb}
-use lib.ListN.{take}
+use lib.ListN.{length, take}
 use Rattle.keys.specs.declared.numbers.TekNumber.{TekNumber}
 use Rattle.keys.specs.declared.traffic.TrafficKey.{TrafficKey}
+use Rattle.keys.specs.declared.sealing.SealedCall.{SealedCall}
 use Rattle.keys.specs.declared.frame.Opening.{Opening}
 use Rattle.keys.specs.declared.frame.Opening.the-variants.{ByOlder, ByNewer, ByNeither}
 use Rattle.keys.specs.declared.refusal.Answer.{Answer}
@@ -31,6 +32,10 @@ pub record Sealed : Type 0 where
 abbrev pub sealedFor : Answer → ℕ → TrafficKey → Sealed
 sealedFor Done w k = record { answer = Done; number = k .number; out = keyOut w k }
 sealedFor (Refused r) w k = record { answer = Refused r; number = record { 0 = 0 }; out = noOut }
+
+-- What sealing hands back of that: the octets are in the lent slices, and TEK and vector are as wide as each other
+abbrev pub sealCalled : Sealed → SealedCall
+sealCalled s = record { answer = s .answer; number = s .number; width = length (s .out .tek) }
 
 -- Opening gives the octets of whichever held key opens the frame
 abbrev pub openedBy : Opening → ℕ → TrafficKey → TrafficKey → KeyOut

@@ -18,7 +18,7 @@ use Rattle.keys.specs.Octets.{overlay}
 use Rattle.keys.specs.Refusal.{answerNumber, isDone}
 use Rattle.keys.specs.Suites.{widthOf}
 use Rattle.keys.specs.Frame.{serves, openingOf}
-use Rattle.keys.specs.Sealing.{KeyOut, Sealed, sealedFor, openedBy, oneMore}
+use Rattle.keys.specs.Sealing.{KeyOut, Sealed, sealedFor, openedBy, oneMore, sealCalled}
 use Rattle.keys.proofs.TestLaws.{both}
 use Rattle.keys.proofs.AnswerLaws.{is-done, number-done}
 use Rattle.wire.specs.Fields.{noParams}
@@ -29,12 +29,12 @@ use Rattle.modem_steps.specs.declared.state.Work.{Work}
 use Rattle.modem_steps.specs.State.{noTek, slotAt, starting}
 use Rattle.modem_steps.specs.Slots.{slotOfSaid, told}
 use Rattle.modem_steps.specs.Receive.{isKnown}
-use Rattle.modem.specs.declared.frames.SealedCall.{SealedCall}
+use Rattle.keys.specs.declared.sealing.SealedCall.{SealedCall}
 use Rattle.modem.specs.declared.frames.OpenedCall.{OpenedCall}
 use Rattle.modem.specs.Limits.{modemFits}
 use Rattle.modem.specs.Messages.{outOctets, OutFits}
 use Rattle.modem.specs.Frames.{machineOf, canSeal, sealAnswer, sealOf, canOpen, openAnswer, withCounts, countedBy, ModemOpened, missed, openedFor, openOf}
-use Rattle.modem.specs.FrameCalled.{sealCalled, openedCall, openCalled, knownMachine, pairSeals, pairOpens, machineOut, sealAsked, openAsked}
+use Rattle.modem.specs.FrameCalled.{openedCall, openCalled, knownMachine, pairSeals, pairOpens, machineOut, sealAsked, openAsked}
 use Rattle.modem.proofs.OutLaws.{out-wider}
 use Rattle.modem.proofs.SentLaws.{sends-none, told-sends}
 use Rattle.modem.proofs.SentFits.{fits-sayable}

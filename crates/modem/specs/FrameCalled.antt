@@ -11,21 +11,17 @@ use Rattle.keys.specs.Numbers.{tekInRange}
 use Rattle.keys.specs.Questions.{firstNo}
 use Rattle.keys.specs.Suites.{widthOf}
 use Rattle.keys.specs.Frame.{serves, openingOf}
-use Rattle.keys.specs.Sealing.{KeyOut, Sealed, openedBy}
+use Rattle.keys.specs.Sealing.{KeyOut, openedBy}
 use Rattle.machines.specs.declared.tek.Pair.{Pair}
 use Rattle.machines.specs.declared.tek.Tek.{Tek}
 use Rattle.modem_steps.specs.declared.state.Modem.{Modem}
 use Rattle.modem_steps.specs.State.{noTek}
 use Rattle.modem_steps.specs.Receive.{isKnown}
-use Rattle.modem.specs.declared.frames.SealedCall.{SealedCall}
 use Rattle.modem.specs.declared.frames.OpenedCall.{OpenedCall}
 use Rattle.modem.specs.Limits.{modemFits}
 use Rattle.modem.specs.Frames.{machineOf, ModemOpened}
 
 -- The width is that of the octets written
-abbrev pub sealCalled : Sealed → SealedCall
-sealCalled s = record { answer = s .answer; number = s .number; width = length (s .out .tek) }
-
 abbrev pub openedCall : Answer → Modem → ℕ → ℕ → OpenedCall
 openedCall answer modem width count = record { answer = answer; modem = modem; width = width; count = count }
 

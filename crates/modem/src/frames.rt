@@ -2,13 +2,13 @@
 ghost use mathlib.Core.Path.{_≡_};
 ghost use mathlib.Core.Bool.{true};
 ghost use Prim.Native.Nat.{_≤_};
-ghost use lib.ListN.{length, take};
+ghost use lib.ListN.{length};
 ghost use Rattle.keys.specs.Octets.{overlay};
-ghost use Rattle.keys.specs.Sealing.{oneMore};
+ghost use Rattle.keys.specs.Sealing.{sealCalled};
 ghost use Rattle.modem_steps.specs.Receive.{isKnown};
 ghost use Rattle.modem.specs.Limits.{modemFits};
 ghost use Rattle.modem.specs.Frames.{sealOf, countedBy, missed, openOf};
-ghost use Rattle.modem.specs.FrameCalled.{sealCalled, openedCall, openCalled, knownMachine, pairSeals, pairOpens, machineOut, sealAsked, openAsked};
+ghost use Rattle.modem.specs.FrameCalled.{openedCall, openCalled, knownMachine, pairSeals, pairOpens, machineOut, sealAsked, openAsked};
 use crate::limits::modem_fits;
 use crate::messages::put_out;
 use keys::frame::Opening;
@@ -16,14 +16,15 @@ use keys::frame::decide;
 use keys::frame::is_serving;
 use keys::numbers::TekNumber;
 use keys::numbers::tek_in_range;
-use keys::octets::put;
 use keys::refusal::Answer;
 use keys::refusal::Refusal;
 use keys::refusal::answer_number;
 use keys::refusal::ask;
 use keys::refusal::is_done;
+use keys::sealing::SealedCall;
+use keys::sealing::one_more;
+use keys::sealing::put_key;
 use keys::suites::width;
-use keys::traffic::TrafficKey;
 use machines::tek::Pair;
 use machines::tek::Tek;
 use modem_steps::slots::slot_of_said;
@@ -31,14 +32,7 @@ use modem_steps::state::Modem;
 use modem_steps::state::no_tek;
 use modem_steps::state::start;
 
-// What `seal` hands back: the answer, the key's number, and how many octets of TEK and of vector were written.
-pub struct SealedCall {
-    pub answer: Answer,
-    pub number: TekNumber,
-    pub width: usize,
-}
-
-// What `open` hands back: also the modem after it, and how many octets of messages were written.
+// What `open` hands back: the answer, the modem after it, how many octets of TEK and of vector were written, and how many of messages.
 pub struct OpenedCall {
     pub answer: Answer,
     pub modem: Modem,
@@ -125,15 +119,6 @@ fn open_answer(
     ask(q1, Refusal::OutOfLimits, a2)
 }
 
-fn one_more(n: u64) -> u64
-    ensures { λ r. ⌜ r ≡ oneMore n ⌝ }
-{
-    if n < 18446744073709551615 {
-        return n + 1;
-    }
-    n
-}
-
 // An opening that gave the number `n` adds one to the frames taken, or to those refused with 10 or 13.
 fn counted(n: u8, m: Modem) -> Modem
     ensures { λ r. ⌜ r ≡ countedBy n m ⌝ }
@@ -148,29 +133,6 @@ fn counted(n: u8, m: Modem) -> Modem
         return r;
     }
     r
-}
-
-// The first `w` octets; how many they are is handed back.
-fn put_octets(o: [u8; 16], w: usize, out: &mut [u8]) -> usize
-    requires { ⌜ (w ≤ 16) × (w ≤ length (now out)) ⌝ }
-    ensures { λ n. ⌜ (n ≡ length (take w o)) × (now (out .exit) ≡ overlay (now (out .entry)) (take w o)) ⌝ }
-{
-    put(o, w, out);
-    w
-}
-
-// The first `w` octets of a key's TEK and of its vector; how many of each is handed back.
-fn put_key(k: TrafficKey, w: usize, tek: &mut [u8], vector: &mut [u8]) -> usize
-    requires { ⌜ (w ≤ 16) × ((16 ≤ length (now tek)) × (16 ≤ length (now vector))) ⌝ }
-    ensures { λ n. ⌜ (n ≡ length (take w (k .tek)))
-        × ((now (tek .exit) ≡ overlay (now (tek .entry)) (take w (k .tek)))
-        × (now (vector .exit) ≡ overlay (now (vector .entry)) (take w (k .vector)))) ⌝ }
-{
-    let a = k.tek;
-    let b = k.vector;
-    let n = put_octets(a, w, tek);
-    put(b, w, vector);
-    n
 }
 
 // The octets of the key of a machine that opens a frame, where one does; how many of each is handed back.

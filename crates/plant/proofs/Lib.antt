@@ -19,3 +19,11 @@ pub mod Alike
 pub mod Struck
 pub mod Demand3
 pub mod Counts
+pub mod RowsComputing
+pub mod RowsRun
+pub mod RowsSetUp
+pub mod RowsWidths
+pub mod RowsLate
+pub mod RowsResent
+pub mod RowsRolled
+pub mod RowsSixteen

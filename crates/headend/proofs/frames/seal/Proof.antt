@@ -39,9 +39,9 @@ use denote.Triple.Spec.{Meets, tripleOf}
 use denote.Triple.Table.{entered, cited}
 use denote.Triple.Walked.{says, Stays, stay-none-slice, stay-none, gave-slice, walkOf, goes-none-slice, goes-none, goes-gave-slice, Walks, ends-at, walked, walk-meets}
 use denote.Exit.{yes}
-use Rattle.headend_steps.specs.declared.frames.SealedCall.{SealedCall}
-use Rattle.headend_steps.proofs.frames.SealedCall as SealedCall₁
-use Rattle.headend_steps.proofs.frames.SealedCall.Laws as SealedCall₁′
+use Rattle.keys.specs.declared.sealing.SealedCall.{SealedCall}
+use Rattle.keys.proofs.sealing.SealedCall as SealedCall₁
+use Rattle.keys.proofs.sealing.SealedCall.Laws as SealedCall₁′
 use Rattle.headend_steps.specs.declared.state.HeadEnd.{HeadEnd}
 use Rattle.headend_steps.proofs.state.HeadEnd as HeadEnd₁
 use Rattle.headend_steps.proofs.state.HeadEnd.Laws as HeadEnd₁′
@@ -78,7 +78,7 @@ use Rattle.association.specs.declared.search.Probe.the-variants.{OfSaid}
 use Rattle.records.specs.Records.{firstOf, lookupOf}
 use Rattle.headend_steps.specs.Search.{outOfLimits}
 use Rattle.headend_steps.specs.Frames.{sealedWith}
-use Rattle.headend_steps.specs.FrameCalled.{sealCalled}
+use Rattle.keys.specs.Sealing.{sealCalled}
 use Rattle.headend.proofs.frames.seal.Key.{name as #here}
 use Rattle.headend.proofs.frames.seal as seal₀
 use Rattle.headend.proofs.frames.seal.Statement as stated

@@ -37,7 +37,7 @@ returns : tie.Need-returns
 returns c =
     let x = c .before .before .before .before .before .before .before .before .before .before .before .before .before .before .before .before .args in
     opened-by (x .clock) (x .number) (x .t) (c .before .before .before .before .before .before .before .before .before .decide .result) ByOlder (c .before .before .before .before .before .before .before .before .before .before .width .result) (x .tek .now) (x .vector .now) (c .before .before .before .before .put-key .result) _ _
-    (c .before .before .before .before .before .before .before .before .before .decide .ensures) (c .before .before .before .before .before .before .before .enum-told .given .1) (c .before .before .before .before .before .before .before .before .before .before .width .ensures .0) (c .before .before .before .before .put-key .ensures .0) (c .before .before .before .before .put-key .ensures .1 .0) (c .before .before .before .before .put-key .ensures .1 .1)
+    (c .before .before .before .before .before .before .before .before .before .decide .ensures) (c .before .before .before .before .before .before .before .enum-told .given .1) (c .before .before .before .before .before .before .before .before .before .before .width .ensures .0) (c .before .before .before .before .put-key .ensures .0) (c .before .before .before .before .put-key .ensures .1) (c .before .before .before .before .put-key .ensures .2)
 
 same-length-3 : tie.Need-same-length-3
 same-length-3 c = search needs
@@ -49,7 +49,7 @@ returns-2 : tie.Need-returns-2
 returns-2 c =
     let x = c .before .before .before .before .before .before .before .before .before .before .before .before .before .before .before .before .args in
     opened-by (x .clock) (x .number) (x .t) (c .before .before .before .before .before .before .before .before .before .decide .result) ByNewer (c .before .before .before .before .before .before .before .before .before .before .width .result) (x .tek .now) (x .vector .now) (c .before .before .before .before .put-key2 .result) _ _
-    (c .before .before .before .before .before .before .before .before .before .decide .ensures) (c .before .before .before .before .before .before .before .enum-told2 .given .1) (c .before .before .before .before .before .before .before .before .before .before .width .ensures .0) (c .before .before .before .before .put-key2 .ensures .0) (c .before .before .before .before .put-key2 .ensures .1 .0) (c .before .before .before .before .put-key2 .ensures .1 .1)
+    (c .before .before .before .before .before .before .before .before .before .decide .ensures) (c .before .before .before .before .before .before .before .enum-told2 .given .1) (c .before .before .before .before .before .before .before .before .before .before .width .ensures .0) (c .before .before .before .before .put-key2 .ensures .0) (c .before .before .before .before .put-key2 .ensures .1) (c .before .before .before .before .put-key2 .ensures .2)
 
 returns-3 : tie.Need-returns-3
 returns-3 c =

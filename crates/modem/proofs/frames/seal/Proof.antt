@@ -29,7 +29,7 @@ put-key-requires c κs =
     let x = c .before .before .before .before .before .before .before .before .before .before .before .before .args in
     let long = seal-long (x .m) (x .said) (x .tek .now) (x .vector .now) (c .before .before .before .before .before .before .before .before .before .machine-of .result) (c .before .before .before .before .before .before .before .before .seal-answer .result) (c .before .before .before .before .before .before .before .before .before .machine-of .ensures) (c .before .before .before .before .before .before .before .before .seal-answer .ensures)
     (sym (c .before .before .before .before .before .before .before .is-done .ensures) ∙ not-false _ (c .before .before .before .before .before .before .if1 .left)) in
-    (c .before .before .width .ensures .1, (long .0, long .1))
+    (c .before .before .width .ensures .1, long .0, long .1)
 
 same-length : tie.Need-same-length
 same-length c = search needs
@@ -41,7 +41,7 @@ returns-2 : tie.Need-returns-2
 returns-2 c =
     let x = c .before .before .before .before .before .before .before .before .before .before .before .before .before .before .before .before .before .args in
     seal-done (x .m) (x .said) (x .tek .now) (x .vector .now) (c .before .before .before .before .before .before .before .before .before .before .before .before .before .before .machine-of .result) (c .before .before .before .before .before .before .before .before .before .before .before .before .before .seal-answer .result) (c .before .before .before .before .before .before .before .before .before .before .before .before .before .before .machine-of .ensures) (c .before .before .before .before .before .before .before .before .before .before .before .before .before .seal-answer .ensures)
-    (sym (c .before .before .before .before .before .before .before .before .before .before .before .before .is-done .ensures) ∙ not-false _ (c .before .before .before .before .before .before .before .before .before .before .before .if1 .left)) (c .before .before .before .before .before .before .before .width .result) (c .before .before .before .before .put-key .result) _ _ (c .before .before .before .before .before .before .before .width .ensures .0) (c .before .before .before .before .put-key .ensures .0) (c .before .before .before .before .put-key .ensures .1 .0) (c .before .before .before .before .put-key .ensures .1 .1)
+    (sym (c .before .before .before .before .before .before .before .before .before .before .before .before .is-done .ensures) ∙ not-false _ (c .before .before .before .before .before .before .before .before .before .before .before .if1 .left)) (c .before .before .before .before .before .before .before .width .result) (c .before .before .before .before .put-key .result) _ _ (c .before .before .before .before .before .before .before .width .ensures .0) (c .before .before .before .before .put-key .ensures .0) (c .before .before .before .before .put-key .ensures .1) (c .before .before .before .before .put-key .ensures .2)
 
 pub seal-spec : {M : Type 1} → statement M
 seal-spec =

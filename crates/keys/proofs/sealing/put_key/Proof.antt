@@ -1,11 +1,11 @@
--- `headend_steps::frames::put_key` meets its contract.
+-- `keys::sealing::put_key` meets its contract.
 use mathlib.Core.Path.{_≡_, sym}
 use native.Mathlib.Omega.{arith}
 use lib.Seq.{length-take-le}
 use lib.ListN.{length}
 use borrow.Author.Needs.{needs}
-use Rattle.headend_steps.proofs.frames.put_key.Statement.{statement}
-use Rattle.headend_steps.proofs.frames.put_key.Tie as tie
+use Rattle.keys.proofs.sealing.put_key.Statement.{statement}
+use Rattle.keys.proofs.sealing.put_key.Tie as tie
 
 put-requires : tie.Need-put-requires
 put-requires c κs = search needs

@@ -1,9 +1,9 @@
--- `headend_steps::frames::one_more` meets its contract.
+-- `keys::sealing::one_more` meets its contract.
 use borrow.Author.Tests.{le-leb, lt-leb}
 use borrow.Author.Needs.{needs}
 use Rattle.keys.specs.Sealing.{oneMore}
-use Rattle.headend_steps.proofs.frames.one_more.Statement.{statement}
-use Rattle.headend_steps.proofs.frames.one_more.Tie as tie
+use Rattle.keys.proofs.sealing.one_more.Statement.{statement}
+use Rattle.keys.proofs.sealing.one_more.Tie as tie
 
 returns : tie.Need-returns
 unfolding oneMore

@@ -1,0 +1,41 @@
+// What sealing hands back at either end, a key's octets put into two lent slices, and the count of frames.
+ghost use mathlib.Core.Path.{_≡_};
+ghost use Prim.Native.Nat.{_≤_};
+ghost use lib.ListN.{length};
+ghost use Rattle.keys.specs.Octets.{overlay};
+ghost use Rattle.keys.specs.Sealing.{keyOut, oneMore};
+use crate::numbers::TekNumber;
+use crate::octets::put;
+use crate::refusal::Answer;
+use crate::traffic::TrafficKey;
+
+// What sealing hands back: the answer, the key's number, and how many octets of TEK and of vector were written; 0 where it is refused.
+pub struct SealedCall {
+    pub answer: Answer,
+    pub number: TekNumber,
+    pub width: usize,
+}
+
+// One more frame, up to 2^64 - 1.
+pub fn one_more(n: u64) -> u64
+    ensures { λ r. ⌜ r ≡ oneMore n ⌝ }
+{
+    if 18446744073709551615 <= n {
+        return n;
+    }
+    n + 1
+}
+
+// The first `w` octets of a key's TEK and vector go to the front of the two slices; how many is handed back.
+pub fn put_key(k: TrafficKey, w: usize, tek: &mut [u8], vector: &mut [u8]) -> usize
+    requires { ⌜ (w ≤ 16) × (16 ≤ length (now tek)) × (16 ≤ length (now vector)) ⌝ }
+    ensures { λ n. ⌜ (n ≡ length (keyOut w k .tek))
+        × (now (tek .exit) ≡ overlay (now (tek .entry)) (keyOut w k .tek))
+        × (now (vector .exit) ≡ overlay (now (vector .entry)) (keyOut w k .vector)) ⌝ }
+{
+    let tek_octets = k.tek;
+    let vector_octets = k.vector;
+    put(tek_octets, w, tek);
+    put(vector_octets, w, vector);
+    w
+}
