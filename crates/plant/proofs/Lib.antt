@@ -27,3 +27,4 @@ pub mod RowsLate
 pub mod RowsResent
 pub mod RowsRolled
 pub mod RowsSixteen
+pub mod RowsListed

@@ -69,7 +69,7 @@ allCome D earlier w [] = true
 allCome D earlier w (s ∷ ss) = mayCome D earlier w s && allCome D (earlier ++ (didOf w s ∷ [])) (after w s) ss
 
 -- ---- such a list counts
-same-octets : (xs ys : List ℕ) → sameOctets xs ys ≡ true → xs ≡ ys
+pub same-octets : (xs ys : List ℕ) → sameOctets xs ys ≡ true → xs ≡ ys
 same-octets [] [] e = refl
 same-octets [] (y ∷ ys) e = never e
 same-octets (x ∷ xs) [] e = never e
@@ -85,7 +85,7 @@ is-put octets (p ∷ ps) e = go (either (sameOctets octets p) (isPut octets ps) 
     go (inl s) later = List·Memᴰ·head (same-octets octets p s)
     go (inr r) later = List·Memᴰ·tail (later r)
 
-is-copy : (D now : ℕ) (octets : List ℕ) (ds : List Did) → isCopy D now octets ds ≡ true → Copy D ds now octets
+pub is-copy : (D now : ℕ) (octets : List ℕ) (ds : List Did) → isCopy D now octets ds ≡ true → Copy D ds now octets
 is-copy D now octets [] e = never e
 is-copy D now octets (d ∷ ds) e =
     go (either (isPut octets (d .given .put) && leb now (d .clock + D)) (isCopy D now octets ds) e) (is-copy D now octets ds)
