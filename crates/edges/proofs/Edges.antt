@@ -5,7 +5,7 @@ use Rattle.wire.proofs.Vectors.{read-I6, number-103, number-107}
 use Rattle.machines.specs.declared.tek.Tek.{Tek}
 use Rattle.machines.specs.declared.tek.TekMoment.{TekMoment}
 use Rattle.machines.specs.Transitions.{C, D, F, nextIn, tekTransitions, authorizationTransitions}
-use Rattle.machines.specs.Tek.{noPair, tekStays, tekStepOf, tekMoved, pairAfter}
+use Rattle.machines.specs.Tek.{noPair, nothing, tekStays, tekStepOf, tekMoved, tekSends, pairAfter}
 use Rattle.association.specs.Roll.{rolledOf}
 use Rattle.association.specs.Listing.{freshOf}
 use Rattle.edges.specs.Edges.{Edges}
@@ -21,6 +21,10 @@ in-f t x older newer e = simp e
 in-f-keys : (t : Tek) (x : TekMoment) (older newer : Params) → t .state ≡ F → tekStepOf t 5 x older newer .machine .pair ≡ noPair
 unfolding tekStepOf tekMoved pairAfter nextIn tekTransitions
 in-f-keys t x older newer e = simp e
+
+in-f-sends : (t : Tek) (x : TekMoment) (older newer : Params) → t .state ≡ F → tekStepOf t 5 x older newer .sends ≡ nothing
+unfolding tekStepOf tekMoved tekSends nextIn tekTransitions
+in-f-sends t x older newer e = simp e
 
 pub edges : Edges
 unfolding rolledOf freshOf nextIn authorizationTransitions
@@ -42,6 +46,7 @@ edges =
       reply-in-d = in-d;
       invalid-in-f = in-f;
       invalid-in-f-keys = in-f-keys;
+      invalid-in-f-sends = in-f-sends;
       identifier-255 = refl;
       reply-i6 = read-I6;
       reply-length-103 = number-103;

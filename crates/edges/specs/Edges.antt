@@ -13,7 +13,7 @@ use Rattle.wire.specs.Vectors.{replyI6, fieldsI6}
 use Rattle.machines.specs.declared.tek.Tek.{Tek}
 use Rattle.machines.specs.declared.tek.TekMoment.{TekMoment}
 use Rattle.machines.specs.Identifier.{nextIdentifier}
-use Rattle.machines.specs.Tek.{noPair, tekStays, tekStepOf}
+use Rattle.machines.specs.Tek.{noPair, nothing, tekStays, tekStepOf}
 use Rattle.machines.specs.Transitions.{C, D, F, authorizationNext}
 use Rattle.keys.specs.declared.traffic.TrafficKey.{TrafficKey}
 use Rattle.association.specs.declared.record.Assoc.{Assoc}
@@ -75,9 +75,10 @@ pub record Edges : Type 0 where
   pub invalid-in-c : authorizationNext 7 C ≡ D
   -- Operational + Key Reply: unchanged, whatever the reply brings
   pub reply-in-d : (t : Tek) (x : TekMoment) (older newer : Params) → t .state ≡ D → tekStepOf t 8 x older newer ≡ tekStays t x
-  -- F + TEK Invalid: C, keys gone
+  -- F + TEK Invalid: C, keys gone; C is not B or E, so nothing is sent
   pub invalid-in-f : (t : Tek) (x : TekMoment) (older newer : Params) → t .state ≡ F → tekStepOf t 5 x older newer .machine .state ≡ C
   pub invalid-in-f-keys : (t : Tek) (x : TekMoment) (older newer : Params) → t .state ≡ F → tekStepOf t 5 x older newer .machine .pair ≡ noPair
+  pub invalid-in-f-sends : (t : Tek) (x : TekMoment) (older newer : Params) → t .state ≡ F → tekStepOf t 5 x older newer .sends ≡ nothing
   -- Identifier 255, then 0
   pub identifier-255 : nextIdentifier 255 ≡ 0
   -- the Key Reply of I.6: Identifier 115, authorization key 7, SAID 8,800, numbers 2 and 3, lives 43,200 and 86,400
