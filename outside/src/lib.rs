@@ -1,0 +1,16 @@
+//! An outside implementation of the key engine's rules (document 01), for comparison.
+pub mod association;
+pub mod attributes;
+pub mod frame;
+pub mod headend;
+pub mod machines;
+pub mod message;
+pub mod modem;
+pub mod replay;
+pub mod settings;
+pub mod slot;
+
+#[cfg(test)]
+mod story_tests;
+#[cfg(test)]
+mod walk_tests;
