@@ -116,4 +116,106 @@ typedef struct {
 curlewreel_written curlewreel_write(const uint8_t *fields, size_t fields_len, const uint8_t *auth_key, size_t auth_key_len,
                                     uint8_t *out, size_t out_len);
 
+/* The modem. Its state passes by value in and out: start with curlewreel_modem_new, keep what each call hands back, and give it to the
+ * next. Every call asks the whole state (1), so one that was damaged is refused, and a refusal hands the modem back as it was, but for 13
+ * at an opening and for the count of frames refused with 10 or 13. Messages of one call stand end to end, each with its own length. */
+
+typedef struct {
+    uint64_t tek_life, tek_grace;                                 /* 1,800 to 604,800 s and even; 300 to life / 2 - 1 */
+    uint64_t ak_life, ak_grace;                                   /* 86,400 to 6,048,000 s; 300 to life / 2 */
+    uint64_t authorize, reauthorize, operational, rekey, reject;  /* the waits, 1 to 600 s */
+} curlewreel_settings;
+
+typedef struct {
+    uint8_t on; /* 0 or 1 */
+    uint64_t at;
+} curlewreel_timer;
+
+typedef struct {
+    uint8_t number;
+    uint64_t deadline;
+    uint8_t tek[16], vector[16]; /* zeros past the suite's width */
+} curlewreel_key;
+
+typedef struct {
+    uint8_t state; /* 0 to 5 for A Start, B Auth Wait, C Authorized, D Reauth Wait, E Reject Wait, F Silent */
+    uint8_t identifier, ak_number;
+    curlewreel_timer timer;
+} curlewreel_authorization;
+
+typedef struct {
+    uint16_t said, suite;
+    uint8_t state; /* 0 to 5 for A Start, B Op Wait, C Op Reauth Wait, D Operational, E Rekey Wait, F Rekey Reauth Wait */
+    uint8_t identifier;
+    curlewreel_timer timer;
+    uint8_t held; /* 1 where a pair is held */
+    curlewreel_key older, newer;
+} curlewreel_tek;
+
+typedef struct {
+    curlewreel_settings settings;
+    uint64_t address;
+    uint16_t said; /* its own, which Authorization Requests carry */
+    uint64_t clock;
+    uint8_t counter;
+    curlewreel_authorization authorization;
+    size_t used; /* how many of the four machines are in use */
+    curlewreel_tek teks[4];
+    uint64_t taken, refused; /* frames */
+} curlewreel_modem;
+
+/* What a call answers: the number, how many octets of messages it wrote, and the modem after it. */
+typedef struct {
+    uint8_t number;
+    size_t count;
+    curlewreel_modem modem;
+} curlewreel_modem_call;
+
+/* A fresh modem at clock 0. Refuses with 1 settings, an address of more than 48 bits or a SAID of more than 14 that are out of their
+ * limits, and then hands back a modem that is all zero. */
+curlewreel_modem_call curlewreel_modem_new(curlewreel_settings settings, uint64_t address, uint16_t said);
+
+/* The modem is established; it is to reauthorize. Where the machine has a blank, done with nothing sent.
+ * Each writes its messages at the front of `out`; its other octets stay as they were.
+ * Refuses, and then writes and changes nothing: 1 the state; 2 `out` has fewer than 216 octets. */
+curlewreel_modem_call curlewreel_modem_established(curlewreel_modem modem, uint8_t *out, size_t out_len);
+curlewreel_modem_call curlewreel_modem_reauth(curlewreel_modem modem, uint8_t *out, size_t out_len);
+
+/* The clock goes to `second`, and due timers fire. Refuses as above, and with 3 a second before the last or above 10^12. */
+curlewreel_modem_call curlewreel_modem_clock(curlewreel_modem modem, uint64_t second, uint8_t *out, size_t out_len);
+
+/* A message comes; `digest` is 1 where its digest holds and 0 where it does not.
+ * Refuses as above, with 1 also another `digest`, then with 6 to 9 as curlewreel_read does (9 also widths that are not the SAID's suite's),
+ * 10 an unknown SAID, 11 an Identifier that no request waits for, 12 a digest that does not hold. */
+curlewreel_modem_call curlewreel_modem_receive(curlewreel_modem modem, const uint8_t *message, size_t message_len, uint8_t digest,
+                                               uint8_t *out, size_t out_len);
+
+/* What sealing answers: the number, the key's number, and how many octets of TEK and of vector were written (8 or 16). */
+typedef struct {
+    uint8_t number;
+    uint8_t key;
+    size_t width;
+} curlewreel_sealed;
+
+/* The newer key of a SAID, to seal a frame with, at the front of `tek` and `vector`; their other octets stay as they were.
+ * Refuses, and then writes nothing: 1 the state or the SAID; 2 a slice of fewer than 16 octets; 10 an unknown SAID; 14 no key. */
+curlewreel_sealed curlewreel_modem_seal(curlewreel_modem modem, uint16_t said, uint8_t *tek, size_t tek_len, uint8_t *vector,
+                                        size_t vector_len);
+
+/* What opening answers: the number, how many octets of TEK and of vector were written, how many of messages, and the modem after it. */
+typedef struct {
+    uint8_t number;
+    size_t width;
+    size_t count;
+    curlewreel_modem modem;
+} curlewreel_modem_opening;
+
+/* The held key with the frame's number whose deadline is after the clock, at the front of `tek` and `vector`; the modem's `taken` is one more.
+ * Refuses, and then writes no key: 1 the state or a field (a frame comes down: direction 1); 2 slices of fewer than 16, 16 and 216 octets;
+ * 10 another address or an unknown SAID; 13 no such key. On 10 and 13 `refused` is one more; on 13 the SAID's machine takes TEK Invalid, and
+ * what it sends is written to `out`. */
+curlewreel_modem_opening curlewreel_modem_open(curlewreel_modem modem, uint8_t direction, uint64_t address, uint16_t said, uint8_t number,
+                                               uint8_t *tek, size_t tek_len, uint8_t *vector, size_t vector_len, uint8_t *out,
+                                               size_t out_len);
+
 #endif

@@ -1,4 +1,5 @@
 pub mod FrameLaws
 pub mod LayoutLaws
+pub mod ModemCallLaws
 pub mod ReadLaws
 pub mod WriteLaws

@@ -3,5 +3,6 @@
 // include/curlewreel.h declares them.
 pub mod frame;
 pub mod layout;
+pub mod modem_calls;
 pub mod read;
 pub mod write;

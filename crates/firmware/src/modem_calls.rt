@@ -1,0 +1,191 @@
+// The modem for C: every call with the state by value in and out, and the answer as document 01's number.
+ghost use mathlib.Core.Path.{_≡_};
+ghost use lib.ListN.{length};
+ghost use Rattle.keys.specs.Octets.{overlay};
+ghost use Rattle.modem.specs.Calls.{newOf, establishedOf, reauthOf, clockOf};
+ghost use Rattle.keys.specs.Sealing.{sealCalled};
+ghost use Rattle.modem.specs.Frames.{sealOf, openOf};
+ghost use Rattle.modem.specs.FrameCalled.{openCalled};
+ghost use Rattle.firmware.specs.ModemCalls.{modemCall, receiveCall, receiveWritten, frameSealed, modemOpening};
+use keys::numbers::TekNumber;
+use keys::refusal::answer_number;
+use keys::sealing::SealedCall;
+use keys::settings::Settings;
+use modem::calls::clock;
+use modem::calls::established;
+use modem::calls::new;
+use modem::calls::reauth;
+use modem::calls::receive;
+use modem::frames::OpenedCall;
+use modem::frames::open;
+use modem::frames::seal;
+use modem_steps::state::Called;
+use modem_steps::state::Modem;
+
+// What a call answers: document 01's number, how many octets of messages were written, and the modem after it.
+#[repr(C)]
+pub struct ModemCall {
+    pub number: u8,
+    pub count: usize,
+    pub modem: Modem,
+}
+
+fn modem_call(c: Called) -> ModemCall
+    ensures { λ r. ⌜ r ≡ modemCall c ⌝ }
+{
+    let a = c.answer;
+    let m = c.modem;
+    let number = answer_number(a);
+    ModemCall {
+        number: number,
+        count: c.count,
+        modem: m,
+    }
+}
+
+// A fresh modem at clock 0; where it is refused, one that is all zero.
+#[no_mangle]
+pub extern "C" fn curlewreel_modem_new(settings: Settings, address: u64, said: u16) -> ModemCall
+    ensures { λ r. ⌜ r ≡ modemCall (newOf settings address said) ⌝ }
+{
+    let c = new(settings, address, said);
+    modem_call(c)
+}
+
+#[no_mangle]
+pub extern "C" fn curlewreel_modem_established(m: Modem, out: &mut [u8]) -> ModemCall
+    ensures { λ r. ⌜ (r ≡ modemCall (establishedOf m (length (now (out .entry))) .called))
+        × (now (out .exit) ≡ overlay (now (out .entry)) (establishedOf m (length (now (out .entry))) .written)) ⌝ }
+{
+    let c = established(m, out);
+    modem_call(c)
+}
+
+#[no_mangle]
+pub extern "C" fn curlewreel_modem_reauth(m: Modem, out: &mut [u8]) -> ModemCall
+    ensures { λ r. ⌜ (r ≡ modemCall (reauthOf m (length (now (out .entry))) .called))
+        × (now (out .exit) ≡ overlay (now (out .entry)) (reauthOf m (length (now (out .entry))) .written)) ⌝ }
+{
+    let c = reauth(m, out);
+    modem_call(c)
+}
+
+#[no_mangle]
+pub extern "C" fn curlewreel_modem_clock(m: Modem, t: u64, out: &mut [u8]) -> ModemCall
+    ensures { λ r. ⌜ (r ≡ modemCall (clockOf m t (length (now (out .entry))) .called))
+        × (now (out .exit) ≡ overlay (now (out .entry)) (clockOf m t (length (now (out .entry))) .written)) ⌝ }
+{
+    let c = clock(m, t, out);
+    modem_call(c)
+}
+
+// A message comes; `digest` is 1 where its digest holds and 0 where not, and any other is out of the limits.
+#[no_mangle]
+pub extern "C" fn curlewreel_modem_receive(
+    m: Modem,
+    message: &[u8],
+    digest: u8,
+    out: &mut [u8],
+) -> ModemCall
+    ensures { λ r. ⌜ (r ≡ receiveCall m (now (message .entry)) digest (length (now (out .entry))))
+        × (now (out .exit) ≡ overlay (now (out .entry)) (receiveWritten m (now (message .entry)) digest (length (now (out .entry))))) ⌝ }
+{
+    if 1 < digest {
+        return ModemCall {
+            number: 1,
+            count: 0,
+            modem: m,
+        };
+    }
+    let c = receive(m, message, digest == 1, out);
+    modem_call(c)
+}
+
+// What sealing answers: document 01's number, the key's number, and how many octets of TEK and of vector were written.
+#[repr(C)]
+pub struct FrameSealed {
+    pub number: u8,
+    pub key: u8,
+    pub width: usize,
+}
+
+fn frame_sealed(c: SealedCall) -> FrameSealed
+    ensures { λ r. ⌜ r ≡ frameSealed c ⌝ }
+{
+    let a = c.answer;
+    let k = c.number;
+    let number = answer_number(a);
+    FrameSealed {
+        number: number,
+        key: k.0,
+        width: c.width,
+    }
+}
+
+#[no_mangle]
+pub extern "C" fn curlewreel_modem_seal(
+    m: Modem,
+    said: u16,
+    tek: &mut [u8],
+    vector: &mut [u8],
+) -> FrameSealed
+    ensures { λ r. ⌜ (r ≡ frameSealed (sealCalled (sealOf m said (length (now (tek .entry))) (length (now (vector .entry))))))
+        × ((now (tek .exit) ≡ overlay (now (tek .entry)) (sealOf m said (length (now (tek .entry))) (length (now (vector .entry))) .out .tek))
+        × (now (vector .exit) ≡ overlay (now (vector .entry)) (sealOf m said (length (now (tek .entry))) (length (now (vector .entry))) .out .vector))) ⌝ }
+{
+    let c = seal(m, said, tek, vector);
+    frame_sealed(c)
+}
+
+// What opening at the modem answers: document 01's number, how many octets of TEK and of vector were written, how many of messages, and
+// the modem after it.
+#[repr(C)]
+pub struct ModemOpening {
+    pub number: u8,
+    pub width: usize,
+    pub count: usize,
+    pub modem: Modem,
+}
+
+fn modem_opening(c: OpenedCall) -> ModemOpening
+    ensures { λ r. ⌜ r ≡ modemOpening c ⌝ }
+{
+    let a = c.answer;
+    let m = c.modem;
+    let number = answer_number(a);
+    ModemOpening {
+        number: number,
+        width: c.width,
+        count: c.count,
+        modem: m,
+    }
+}
+
+#[no_mangle]
+pub extern "C" fn curlewreel_modem_open(
+    m: Modem,
+    direction: u8,
+    address: u64,
+    said: u16,
+    number: u8,
+    tek: &mut [u8],
+    vector: &mut [u8],
+    out: &mut [u8],
+) -> ModemOpening
+    ensures { λ r. ⌜ (r ≡ modemOpening (openCalled (openOf m direction address said (record { 0 = number }) (length (now (tek .entry))) (length (now (vector .entry))) (length (now (out .entry))))))
+        × ((now (tek .exit) ≡ overlay (now (tek .entry)) (openOf m direction address said (record { 0 = number }) (length (now (tek .entry))) (length (now (vector .entry))) (length (now (out .entry))) .out .tek))
+        × ((now (vector .exit) ≡ overlay (now (vector .entry)) (openOf m direction address said (record { 0 = number }) (length (now (tek .entry))) (length (now (vector .entry))) (length (now (out .entry))) .out .vector))
+        × (now (out .exit) ≡ overlay (now (out .entry)) (openOf m direction address said (record { 0 = number }) (length (now (tek .entry))) (length (now (vector .entry))) (length (now (out .entry))) .sent)))) ⌝ }
+{
+    let c = open(
+        m,
+        direction,
+        address,
+        said,
+        TekNumber(number),
+        tek,
+        vector,
+        out,
+    );
+    modem_opening(c)
+}

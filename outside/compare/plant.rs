@@ -1,0 +1,228 @@
+//! A plant: random lists of calls, worked out with the outside implementation. Copies of messages and frames come late, twice, in another
+//! order and damaged; listings and clocks are refused now and then.
+
+use crate::make;
+use crate::random::Random;
+use curlewreel_outside::replay::Ends;
+
+/// A message put out, or a frame sealed: its fields direction, address, SAID, number.
+#[derive(Clone)]
+struct Frame(u64, u64, u64, u64);
+
+pub struct Plant {
+    r: Random,
+    ends: Ends,
+    life: u64,
+    aklife: u64,
+    address: u64,
+    clock: u64,
+    /// How many calls of a hundred are listings.
+    listings: u64,
+    saids: Vec<u64>,
+    up: Vec<Vec<u8>>,
+    down: Vec<Vec<u8>>,
+    frames: Vec<Frame>,
+    first: bool,
+}
+
+pub fn hex(octets: &[u8]) -> String {
+    octets.iter().map(|o| format!("{o:02x}")).collect()
+}
+
+pub fn unhex(text: &str) -> Vec<u8> {
+    (0..text.len() / 2).map(|i| u8::from_str_radix(&text[2 * i..2 * i + 2], 16).expect("hexadecimal")).collect()
+}
+
+/// The messages that stand end to end.
+fn apart(octets: &[u8]) -> Vec<Vec<u8>> {
+    let (mut out, mut rest) = (Vec::new(), octets);
+    while rest.len() >= 4 {
+        let n = 4 + usize::from(rest[2]) * 256 + usize::from(rest[3]);
+        out.push(rest[..n].to_vec());
+        rest = &rest[n..];
+    }
+    out
+}
+
+impl Plant {
+    /// A plant of a seed, and the four lines of its set-up.
+    pub fn new(seed: u64) -> (Plant, String) {
+        let mut r = Random(seed);
+        let (input, life, aklife, address) = set_up(&mut r);
+        let ends = Ends::start(&input.as_bytes().split(|c| *c == b'\n').collect::<Vec<_>>()).expect("a start");
+        let listings = if r.one_in(8) { 30 } else { 2 };
+        let (saids, up, down, frames) = (Vec::new(), Vec::new(), Vec::new(), Vec::new());
+        (Plant { r, ends, life, aklife, address, clock: 0, listings, saids, up, down, frames, first: true }, input)
+    }
+
+    /// The next call, and what the outside implementation answers.
+    pub fn next(&mut self) -> (String, String) {
+        let lists = std::mem::replace(&mut self.first, false) && !self.r.one_in(20);
+        let call = if lists { self.list() } else { self.call() };
+        let answer = self.ends.call(call.as_bytes()).unwrap_or("?".to_string());
+        self.keep(&call, &answer);
+        (call, answer)
+    }
+
+    /// The line that ends the answers.
+    pub fn frames(&self) -> String {
+        self.ends.frames()
+    }
+
+    /// One of the newest mostly, any of them now and then.
+    fn place(&mut self, n: usize) -> Option<usize> {
+        if n == 0 {
+            return None;
+        }
+        let back = if self.r.one_in(6) { n } else { n.min(3) };
+        Some(n - 1 - self.r.below(back as u64) as usize)
+    }
+
+    fn said(&mut self) -> u64 {
+        match self.r.below(20) {
+            0 => self.r.pick(&[0, 16_383, 16_384, 65_536]),
+            1 => self.r.below(40),
+            _ if self.saids.is_empty() => 1,
+            _ => {
+                let at = self.r.below(self.saids.len().min(4) as u64) as usize;
+                self.saids[at]
+            }
+        }
+    }
+
+    fn some_address(&mut self) -> u64 {
+        match self.r.below(20) {
+            0 => self.r.pick(&[1 << 48, u64::MAX]),
+            1 | 2 => 1 + self.r.below(5),
+            _ => self.address,
+        }
+    }
+
+    fn list(&mut self) -> String {
+        let n = if self.r.one_in(12) { 5 } else { 1 + self.r.below(4) };
+        let mut text = String::new();
+        for _ in 0..n {
+            let said = if self.r.one_in(15) { self.r.pick(&[1, 2, 16_384]) } else { self.r.below(200) };
+            let suite = if self.r.one_in(15) { 512 } else { self.r.pick(&[256, 768]) };
+            text += &format!(",{said},{suite}");
+        }
+        let octets = if self.r.one_in(12) { self.r.below(300) as usize } else { 64 * n as usize };
+        let address = if self.saids.is_empty() || self.r.one_in(10) { self.address } else { 1 + self.r.below(40) };
+        let (allowed, material) = (self.r.below(10).min(1), hex(&self.r.octets(octets)));
+        format!("list,{address},{allowed},{material}{text}")
+    }
+
+    fn clock(&mut self) -> String {
+        let half = self.life / 2;
+        let ahead = match self.r.below(24) {
+            0 => self.life,
+            1 => half * self.r.below(20),
+            2 if self.r.one_in(4) => self.aklife,
+            3..=8 => self.r.below(half),
+            9 | 10 => half - self.clock % half,
+            11 | 12 => half - 1 - self.clock % half,
+            _ => self.r.below(60),
+        };
+        let t = match self.r.below(60) {
+            0 => self.clock.saturating_sub(1 + self.r.below(50)),
+            1 if self.r.one_in(10) => self.r.pick(&[1_000_000_000_001, u64::MAX]),
+            _ => self.clock + ahead,
+        };
+        let n = if self.r.one_in(40) { self.r.below(200) as usize } else { 64 * self.saids.len() };
+        format!("clock,{t},{}", hex(&self.r.octets(n)))
+    }
+
+    /// A copy, sometimes damaged; or a message of any kind.
+    fn copy(&mut self, up: bool) -> Vec<u8> {
+        let n = if up { self.up.len() } else { self.down.len() };
+        let Some(at) = self.place(n).filter(|_| !self.r.one_in(20)) else {
+            return make::message(&mut self.r);
+        };
+        let mut octets = if up { self.up[at].clone() } else { self.down[at].clone() };
+        if self.r.one_in(10) {
+            make::damage(&mut self.r, &mut octets);
+        }
+        if self.r.one_in(25) && octets.len() > 1 {
+            octets[1] = octets[1].wrapping_add(self.r.pick(&[1, 255]));
+        }
+        octets
+    }
+
+    fn message(&mut self, up: bool) -> String {
+        let digest = u64::from(!self.r.one_in(25));
+        let octets = hex(&self.copy(up));
+        if !up {
+            return format!("down,{digest},{octets}");
+        }
+        let n = if self.r.one_in(25) { self.r.pick(&[0, 256, 257]) } else { 1 + self.r.below(20) as usize };
+        let key = hex(&self.r.octets(n));
+        format!("up,{},{digest},{key},{octets}", self.some_address())
+    }
+
+    fn frame(&mut self) -> String {
+        let n = self.frames.len();
+        let Some(at) = self.place(n) else { return "sealup,1".to_string() };
+        let Frame(mut direction, mut address, mut said, mut number) = self.frames[at].clone();
+        let receiver = if direction == 0 { "openup" } else { "opendown" };
+        match self.r.below(25) {
+            0 => direction = self.r.below(3),
+            1 => address = self.some_address(),
+            2 => said = self.said(),
+            3 | 4 => number = self.r.below(17),
+            _ => {}
+        }
+        format!("{receiver},{direction},{address},{said},{number}")
+    }
+
+    fn call(&mut self) -> String {
+        if self.r.below(100) < self.listings {
+            return self.list();
+        }
+        match self.r.below(100) {
+            0..=17 => self.clock(),
+            18..=20 => "established".to_string(),
+            21 => "reauth".to_string(),
+            22..=46 => self.message(true),
+            47..=71 => self.message(false),
+            72..=78 => format!("sealdown,{},{}", self.some_address(), self.said()),
+            79..=85 => format!("sealup,{}", self.said()),
+            _ => self.frame(),
+        }
+    }
+
+    /// Keeps what a call that was done put out.
+    fn keep(&mut self, call: &str, answer: &str) {
+        let (fields, given): (Vec<&str>, Vec<&str>) = (call.split(',').collect(), answer.split(',').collect());
+        let number = |at: usize| fields[at].parse::<u64>().expect("a number");
+        match (fields[0], given[0]) {
+            ("list", "0") => self.saids.extend((4..fields.len()).step_by(2).map(number)),
+            ("clock", "0") => {
+                self.clock = number(1);
+                self.up.extend(apart(&unhex(given[1])));
+            }
+            ("established" | "reauth" | "down", "0") | ("opendown", "13") => self.up.extend(apart(&unhex(given[1]))),
+            ("up", "0") | ("openup", "13") => self.down.extend(apart(&unhex(given[1]))),
+            ("sealdown", "0") => self.frames.push(Frame(1, number(1), number(2), given[1].parse().expect("a number"))),
+            ("sealup", "0") => self.frames.push(Frame(0, self.address, number(1), given[1].parse().expect("a number"))),
+            _ => {}
+        }
+    }
+}
+
+fn set_up(r: &mut Random) -> (String, u64, u64, u64) {
+    let life = if r.one_in(4) { 1_800 + 2 * r.below(3_000) } else { 1_800 };
+    let (grace, aklife) = (300 + r.below(life / 2 - 300), 86_400 + r.below(5_000));
+    let akgrace = 300 + r.below(aklife / 2 - 300);
+    let mut wait = || {
+        let most = r.pick(&[20, 600]);
+        (1 + r.below(most)).to_string()
+    };
+    let waits: Vec<String> = (0..5).map(|_| wait()).collect();
+    let address = 1_000 + r.below(1 << 40);
+    let text = format!(
+        "life,grace,aklife,akgrace,authorize,reauthorize,operational,rekey,reject\n{life},{grace},{aklife},{akgrace},{}\naddress,said\n{address},{}\n",
+        waits.join(","),
+        r.below(16_384)
+    );
+    (text, life, aklife, address)
+}
