@@ -1,5 +1,5 @@
-// What C firmware links: exported functions on numbers and byte slices, all with the prefix `curlewreel_`. Each asks its own
-// questions and has no `requires`; its contract fixes the answer and every lent octet, for refused input too.
+// What C firmware links: exported functions on numbers, byte slices and the modem's state by value, all with the prefix `curlewreel_`. Each
+// asks its own questions and has no `requires`; its contract fixes the answer, the state and every lent octet, for refused input too.
 // include/curlewreel.h declares them.
 pub mod frame;
 pub mod layout;
