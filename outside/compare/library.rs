@@ -1,5 +1,6 @@
 //! The static library's three functions (include/curlewreel.h), and its layout of a message's fields.
 
+use curlewreel_outside::frame::Pair;
 use curlewreel_outside::message::{Descriptor, Fields, Params, Reading};
 
 #[repr(C)]
@@ -38,18 +39,6 @@ extern "C" {
 
 pub const WRITTEN: usize = 109;
 pub const FIELDS: usize = 117;
-
-/// The numbers of one frame decision.
-#[derive(Debug)]
-pub struct Pair {
-    pub clock: u64,
-    pub older_number: u8,
-    pub older_deadline: u64,
-    pub newer_number: u8,
-    pub newer_deadline: u64,
-    pub width: usize,
-    pub number: u8,
-}
 
 pub fn frame(p: &Pair, keys: &[u8], tek: &mut [u8], vector: &mut [u8]) -> u8 {
     unsafe {

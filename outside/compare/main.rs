@@ -5,9 +5,8 @@ mod library;
 mod make;
 mod random;
 
-use curlewreel_outside::frame;
+use curlewreel_outside::frame::{self, Pair};
 use curlewreel_outside::message::{self, End, Fields, Params};
-use library::Pair;
 use random::Random;
 
 /// How often each number was answered.
@@ -162,18 +161,7 @@ fn frame_one(r: &mut Random, tally: &mut Tally) {
     let (lent_tek, lent_vector) = (r.octets(lent_tek), r.octets(lent_vector));
     let (mut tek, mut vector) = (lent_tek.clone(), lent_vector.clone());
     let answer = library::frame(&p, &keys, &mut tek, &mut vector);
-    let expected = frame::decide(
-        clock,
-        older_number,
-        older_deadline,
-        newer_number,
-        newer_deadline,
-        width,
-        &keys,
-        number,
-        lent_tek.len(),
-        lent_vector.len(),
-    );
+    let expected = frame::decide(&p, &keys, lent_tek.len(), lent_vector.len());
     let (wanted, written) = match &expected {
         Ok(pair) => (0, pair.clone()),
         Err(n) => (*n, (Vec::new(), Vec::new())),

@@ -48,36 +48,36 @@ fn pair_fits(clock: u64, older: &Held, newer: &Held, width: usize) -> bool {
         && [older.tek, older.vector, newer.tek, newer.vector].iter().all(zeros)
 }
 
+/// The numbers of a frame decision.
+#[derive(Clone, Copy, Debug)]
+pub struct Pair {
+    pub clock: u64,
+    pub older_number: u8,
+    pub older_deadline: u64,
+    pub newer_number: u8,
+    pub newer_deadline: u64,
+    pub width: usize,
+    pub number: u8,
+}
+
 /// The frame decision: questions 1, 2, 13. Octets that `keys` lacks count as zero in question 1.
-#[allow(clippy::too_many_arguments)]
-pub fn decide(
-    clock: u64,
-    older_number: u8,
-    older_deadline: u64,
-    newer_number: u8,
-    newer_deadline: u64,
-    width: usize,
-    keys: &[u8],
-    number: u8,
-    tek_room: usize,
-    vector_room: usize,
-) -> Result<(Vec<u8>, Vec<u8>), u8> {
+pub fn decide(p: &Pair, keys: &[u8], tek_room: usize, vector_room: usize) -> Result<(Vec<u8>, Vec<u8>), u8> {
     let mut all = [0; 64];
     let there = keys.len().min(64);
     all[..there].copy_from_slice(&keys[..there]);
-    let older = Held::new(older_number, older_deadline, &all[..16], &all[16..32]);
-    let newer = Held::new(newer_number, newer_deadline, &all[32..48], &all[48..]);
-    if clock > LAST_SECOND || (width != 8 && width != 16) || number > 15 {
+    let older = Held::new(p.older_number, p.older_deadline, &all[..16], &all[16..32]);
+    let newer = Held::new(p.newer_number, p.newer_deadline, &all[32..48], &all[48..]);
+    if p.clock > LAST_SECOND || (p.width != 8 && p.width != 16) || p.number > 15 {
         return Err(1);
     }
-    if !pair_fits(clock, &older, &newer, width) {
+    if !pair_fits(p.clock, &older, &newer, p.width) {
         return Err(1);
     }
     if keys.len() != 64 || tek_room < 16 || vector_room < 16 {
         return Err(2);
     }
-    let opener = [older, newer].into_iter().find(|k| k.opens(clock, u64::from(number)));
-    opener.map(|k| k.octets(width)).ok_or(13)
+    let opener = [older, newer].into_iter().find(|k| k.opens(p.clock, u64::from(p.number)));
+    opener.map(|k| k.octets(p.width)).ok_or(13)
 }
 
 #[cfg(test)]
@@ -90,7 +90,8 @@ mod tests {
         for i in 0..8 {
             (keys[i], keys[16 + i], keys[32 + i], keys[48 + i]) = (1, 2, 3, 4);
         }
-        let ask = |clock, width, keys: &[u8], number, room| decide(clock, 15, 900, 0, 1_800, width, keys, number, room, 16);
+        let pair = Pair { clock: 0, older_number: 15, older_deadline: 900, newer_number: 0, newer_deadline: 1_800, width: 8, number: 0 };
+        let ask = |clock, width, keys: &[u8], number, room| decide(&Pair { clock, width, number, ..pair }, keys, room, 16);
         assert_eq!(ask(899, 8, &keys, 15, 16), Ok((vec![1; 8], vec![2; 8])));
         assert_eq!(ask(900, 8, &keys, 15, 16), Err(13));
         assert_eq!(ask(900, 8, &keys, 0, 16), Ok((vec![3; 8], vec![4; 8])));
@@ -104,9 +105,10 @@ mod tests {
         assert_eq!(ask(900, 8, &keys, 0, 16), Err(1));
         assert_eq!(ask(900, 8, &keys[..63], 0, 16), Err(2));
         assert_eq!(ask(900, 16, &keys, 0, 16).map(|k| k.1[15]), Ok(1));
-        assert_eq!(decide(0, 1, 5, 3, 6, 8, &[], 1, 0, 0), Err(1));
-        assert_eq!(decide(0, 1, 6, 2, 6, 8, &[], 1, 0, 0), Err(1));
-        assert_eq!(decide(0, 1, 5, 2, 604_801, 8, &[], 1, 0, 0), Err(1));
-        assert_eq!(decide(0, 255, 5, 0, 6, 8, &[], 1, 0, 0), Err(1));
+        for (older_number, older_deadline, newer_number, newer_deadline) in [(1, 5, 3, 6), (1, 6, 2, 6), (1, 5, 2, 604_801), (255, 5, 0, 6)]
+        {
+            let wrong = Pair { older_number, older_deadline, newer_number, newer_deadline, number: 1, ..pair };
+            assert_eq!(decide(&wrong, &[], 0, 0), Err(1));
+        }
     }
 }
