@@ -1,7 +1,7 @@
 -- Laws of the frame decision for C (`specs/Frame.antt`): what it gives by the first question that is not met, and where all are.
 use mathlib.Core.Path.{_≡_, refl, sym, _∙_, ap, subst}
 use mathlib.Core.Bool.{Bool, true, false, _&&_, _||_}
-use mathlib.Core.List.{List, [], _∷_}
+use mathlib.Core.List.{List}
 use Prim.Native.Nat.{ℕ, suc, _≤_}
 use native.Mathlib.Omega.{arith}
 use lib.Dec.{leb, eqb}
@@ -16,7 +16,7 @@ use Rattle.keys.specs.Suites.{widthKnown}
 use Rattle.keys.specs.Traffic.{pairFits}
 use Rattle.keys.specs.Frame.{openingOf}
 use Rattle.keys.proofs.TestLaws.{both}
-use Rattle.firmware.specs.Frame.{Given, given, frameFits, slicesFit, isHeld, chosenOf, frameNumber, decisionOf, Gives}
+use Rattle.firmware.specs.Frame.{Given, frameFits, slicesFit, isHeld, chosenOf, frameNumber, decisionOf, Gives}
 
 module _ (clock : ℕ) (older newer : TrafficKey) (w : ℕ) (number : TekNumber) (keys : ℕ) (tek vector : List ℕ) where
   abbrev decided : Given

@@ -1,5 +1,5 @@
 -- The frame decision for C (document 01, questions 1, 2 and 13; "C firmware calls the message and frame entry points").
-use mathlib.Core.Bool.{Bool, true, false, _&&_}
+use mathlib.Core.Bool.{Bool, _&&_}
 use mathlib.Core.Path.{_≡_}
 use mathlib.Core.List.{List, [], _∷_}
 use Prim.Native.Nat.{ℕ, zero, suc}
@@ -14,8 +14,8 @@ use Rattle.keys.specs.Numbers.{tekInRange}
 use Rattle.keys.specs.Suites.{widthKnown}
 use Rattle.keys.specs.Octets.{overlay}
 use Rattle.keys.specs.Traffic.{keyFrom, pairFits}
-use Rattle.keys.specs.Frame.{openingOf}
-use Rattle.keys.specs.Questions.{Question, firstNo}
+use Rattle.keys.specs.Frame.{openingNumber, openingOf}
+use Rattle.keys.specs.Questions.{firstNo}
 use Rattle.keys.specs.Refusal.{answerNumber}
 
 -- Question 1: the clock, the width, the frame's number, and the pair that is held
@@ -29,9 +29,7 @@ slicesFit keys tek vector = eqb keys 64 && leb 16 tek && leb 16 vector
 
 -- Question 13: a held key opens the frame
 abbrev pub isHeld : Opening → Bool
-isHeld ByOlder = true
-isHeld ByNewer = true
-isHeld ByNeither = false
+isHeld o = eqb (openingNumber o) 0
 
 -- The key that opens the frame; where there is none the call is refused, and the key that stands here is not given out
 abbrev pub chosenOf : Opening → TrafficKey → TrafficKey → TrafficKey

@@ -36,7 +36,7 @@ use Rattle.headend_steps.proofs.AnswerFits.{Replied, active-small, by-key-answe
 use Rattle.headend_steps.proofs.AnswersRead.{ShapedRecord, readBack, key-reply-read}
 use Rattle.headend.specs.Calls.{receiveOctets}
 use Rattle.headend.specs.FrameCalls.{openOf}
-use Rattle.headend.specs.Within.{Within, Recorded}
+use Rattle.headend.specs.Within.{Within}
 use Rattle.headend.proofs.AnswersSent.{request, found, reaction, Takes, takes-asked, receive-done}
 use Rattle.headend.proofs.AnswerCases.{placeOf, KeyReplied, sent-key-reply}
 
@@ -55,12 +55,6 @@ module _ (h h′ : HeadEnd) (same : SameButCounts h h′) where
   same-is : h′ ≡ withCounts h (h′ .taken) (h′ .refused)
   same-is = rw (sym (same .settings), sym (same .clock), sym (same .modems), sym (same .entries), sym (same .used))
 
-  pub same-known : (address : ℕ) → knownOf h′ address ≡ knownOf h address
-  same-known address = ap (λ (x : HeadEnd). knownOf x address) same-is
-
-  pub same-half : halfIn h′ ≡ halfIn h
-  same-half = ap halfIn same-is
-
   module _ (xs : List Assoc) where
     pub same-within : Within h xs → Within h′ xs
     unfolding headFits
@@ -68,9 +62,6 @@ module _ (h h′ : HeadEnd) (same : SameButCounts h h′) where
       where
         counts-within : (taken refused : ℕ) → Within (withCounts h taken refused) xs
         counts-within taken refused = record { fits = w .fits; records = w .records; lent = w .lent }
-
-    pub same-recorded : Recorded h xs → Recorded h′ xs
-    same-recorded r = subst (λ (x : HeadEnd). Recorded x xs) (sym same-is) (record { each = r .each })
 
 counted-same : (n : ℕ) (h : HeadEnd) → SameButCounts h (countedBy n h)
 unfolding countedBy
@@ -99,15 +90,6 @@ module _ (h : HeadEnd) (xs : List Assoc) (direction address said : ℕ) (number 
 
   pub open-within : Within h xs → Within (openOf h xs direction address said number tek vector lent .state) xs
   open-within w = same-within h (openOf h xs direction address said number tek vector lent .state) open-same xs w
-
-  pub open-recorded : Recorded h xs → Recorded (openOf h xs direction address said number tek vector lent .state) xs
-  open-recorded r = same-recorded h (openOf h xs direction address said number tek vector lent .state) open-same xs r
-
-  pub open-known : (a : ℕ) → knownOf (openOf h xs direction address said number tek vector lent .state) a ≡ knownOf h a
-  open-known a = same-known h (openOf h xs direction address said number tek vector lent .state) open-same a
-
-  pub open-half : halfIn (openOf h xs direction address said number tek vector lent .state) ≡ halfIn h
-  open-half = same-half h (openOf h xs direction address said number tek vector lent .state) open-same
 
   -- What it puts out is a TEK Invalid or nothing
   invalid-code : (k : Known) → codeOf (invalidOctets h k said) ≡ 8 → ⊥

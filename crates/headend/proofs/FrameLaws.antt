@@ -33,7 +33,7 @@ use Rattle.records.proofs.RecordsLaws.{first-is-hit}
 use Rattle.headend_steps.specs.declared.state.HeadEnd.{HeadEnd}
 use Rattle.headend_steps.specs.Entries.{knownOf, listsSuite}
 use Rattle.headend_steps.specs.Limits.{addressFits, headFits}
-use Rattle.headend_steps.specs.Search.{halfIn, outOfLimits}
+use Rattle.headend_steps.specs.Search.{halfIn, outOfLimits, recordsFit, foundSuits}
 use Rattle.headend_steps.specs.Frames.{isOwn, heldSuits, frameFits, sealAnswer, sealedWith, openAnswer, HeadOpened, openedFor, openedWith}
 use Rattle.headend.specs.FrameCalls.{sealOf, openOf}
 use Rattle.headend.specs.Within.{Within, Recorded}
@@ -54,9 +54,9 @@ frame-asked h bad len s address said e all own =
     let t₁ = ltb (s .at) (h .used) in
     let t₂ = recordFits (halfIn h) (h .clock) (s .held) in
     let t₃ = listsSuite (knownOf h address .entry .listing) said (s .held .suite) in
-    let a₃ = both (headFits h && leb (h .used) bad && addressFits address && saidFits said) (heldSuits h len s (knownOf h address) said) e in
-    let a₂ = both (headFits h && leb (h .used) bad && addressFits address) (saidFits said) (a₃ .0) in
-    let a₁ = both (headFits h && leb (h .used) bad) (addressFits address) (a₂ .0) in
+    let a₃ = both (headFits h && recordsFit h bad len && addressFits address && saidFits said) (heldSuits h len s (knownOf h address) said) e in
+    let a₂ = both (headFits h && recordsFit h bad len && addressFits address) (saidFits said) (a₃ .0) in
+    let a₁ = both (headFits h && recordsFit h bad len) (addressFits address) (a₂ .0) in
     let held = a₃ .1 in
     let g : t₁ && t₂ && t₃ ≡ true = rw (own, le-ltb len (h .used) all) at held in
     let g₂ = both (t₁ && t₂) t₃ g in
@@ -192,7 +192,7 @@ module _ (h : HeadEnd) (xs : List Assoc) (address said : ℕ) (number : TekNumbe
     held-suits = go ours refl
       where
         go : (b : Bool) → isOwn (knownOf h address) said ≡ b
-            → not b || ltb (length xs) (h .used) || (ltb (looked .at) (h .used) && recordFits (halfIn h) (h .clock) (looked .held) && listsSuite (knownOf h address .entry .listing) said (looked .held .suite)) ≡ true
+            → not b || foundSuits h (length xs) looked (knownOf h address) said ≡ true
         go false e = refl
         go true e =
             let p = OfSaid said in

@@ -6,7 +6,6 @@ pub mod KeptLimits
 pub mod Refused
 pub mod AnswersSent
 pub mod AnswerCases
-pub mod KnownAfter
 pub mod StateLaws
 pub mod MintLaws
 pub mod FoundLaws

@@ -204,18 +204,6 @@ module _ (clock : ℕ) (a : Assoc) (f : Fields) (key : List ℕ) where
   unfolding messageOf message itemsOf itemsOfTypes itemsOfType neededOf octets two
   reply-by = simp (length-append, length-attr) (omega arith)
 
-  -- with whole arrays, as the suite is wide
-  pub key-reply-length : length (a .older .tek) ≡ 16 → length (a .older .vector) ≡ 16 → length (a .newer .tek) ≡ 16 → length (a .newer .vector) ≡ 16
-      → length (messageOf (keyReply clock a f) key noDigest) ≡ 4 + 4 + 5 + 2 * (3 + (3 + widthOf (a .suite)) + 7 + 4 + (3 + widthOf (a .suite))) + 23
-  key-reply-length n₁ n₂ n₃ n₄ =
-      let w = widthOf (a .suite) in
-      let m : w ≤ 16 = width-most (a .suite) in
-      let t₁ : length (take w (a .older .tek)) ≡ w = length-take-le w (a .older .tek) (omega arith) in
-      let t₂ : length (take w (a .older .vector)) ≡ w = length-take-le w (a .older .vector) (omega arith) in
-      let t₃ : length (take w (a .newer .tek)) ≡ w = length-take-le w (a .newer .tek) (omega arith) in
-      let t₄ : length (take w (a .newer .vector)) ≡ w = length-take-le w (a .newer .vector) (omega arith) in
-      omega (arith, reply-by, params-length (paramsAt clock w (a .older)), params-length (paramsAt clock w (a .newer)))
-
   pub key-reply-most : length (messageOf (keyReply clock a f) key noDigest) ≤ 140
   key-reply-most =
       let w = widthOf (a .suite) in

@@ -6,7 +6,7 @@ use Prim.Native.Nat.{ℕ, _≤_}
 use native.Mathlib.Omega.{arith}
 use lib.Dec.{eqb}
 use lib.ListN.{length}
-use borrow.Author.Tests.{ne-eqb, le-leb}
+use borrow.Author.Tests.{ne-eqb}
 use Rattle.keys.specs.declared.refusal.Answer.the-variants.{Done}
 use Rattle.wire.specs.declared.fields.Fields.{Fields}
 use Rattle.wire.specs.declared.fields.Reading.{Reading}
@@ -28,12 +28,10 @@ use Rattle.association.proofs.RecordLaws.{InLimits}
 use Rattle.headend_steps.specs.declared.state.AuthKeys.{AuthKeys}
 use Rattle.headend_steps.specs.declared.state.HeadEnd.{HeadEnd}
 use Rattle.headend_steps.specs.declared.entries.Known.{Known}
-use Rattle.headend_steps.specs.Authorization.{lifeLeft}
 use Rattle.headend_steps.specs.Entries.{knownOf}
 use Rattle.headend_steps.specs.Answers.{errorAnswer, reject, invalid, keyReject, replyAnswer, keyReply, keyAnswer, keysAfter, requestAnswer, requestReaction, reactionOf}
 use Rattle.headend_steps.specs.Receive.{answerOctets, receiveAnswer, reactionTo, receiveCalled, receiveWritten}
-use Rattle.headend_steps.proofs.ListingLaws.{ListingIn}
-use Rattle.headend_steps.proofs.AnswerFields.{reject-fits, invalid-fits, key-reject-fits, reply-fits, key-reply-fits}
+use Rattle.headend_steps.proofs.AnswerFields.{key-reply-fits}
 use Rattle.headend_steps.proofs.AnswerFits.{by-key-answer, reaction-writable}
 
 -- What is read of an answer
@@ -81,28 +79,8 @@ key-reply-shaped clock a f n =
       newer = record { tek = n .newer-tek; vector = n .newer-vector };
     }
 
--- ---- each answer
+-- ---- a Key Reply
 module _ (key padding : List ℕ) where
-  pub reject-read : (i e : ℕ) → readOf Modem (answerOctets (reject i e) key ++ padding) ≡ readBack (reject i e) key
-  unfolding receives authKeyFits needs neededOf among
-  reject-read i e = answer-read (reject i e) key padding (reject-shaped i e) refl (reject-fits i e) refl
-
-  pub invalid-read : (i e : ℕ) → readOf Modem (answerOctets (invalid i e) key ++ padding) ≡ readBack (invalid i e) key
-  unfolding receives authKeyFits needs neededOf among
-  invalid-read i e = answer-read (invalid i e) key padding (invalid-shaped i e) refl (invalid-fits i e) refl
-
-  pub key-reject-read : (f : Fields) (e : ℕ) → f .ak .0 ≤ 15 → f .said ≤ 16383 → readOf Modem (answerOctets (keyReject f e) key ++ padding) ≡ readBack (keyReject f e) key
-  unfolding receives authKeyFits needs neededOf among
-  key-reject-read f e low small = answer-read (keyReject f e) key padding (error-shaped f 9 e) refl (key-reject-fits f e low small) refl
-
-  pub reply-read : (clock i : ℕ) (l : Listing) (k : AuthKeys) → 1 ≤ length key → length key ≤ 256 → ListingIn l
-      → 1 ≤ lifeLeft clock (k .newer) → lifeLeft clock (k .newer) ≤ 12096000
-      → readOf Modem (answerOctets (replyAnswer clock i l k) key ++ padding) ≡ readBack (replyAnswer clock i l k) key
-  unfolding receives authKeyFits needs neededOf among
-  reply-read clock i l k few many p low high =
-      answer-read (replyAnswer clock i l k) key padding (reply-shaped clock i l k) refl (reply-fits clock i l k p low high)
-      (rw (le-leb 1 (length key) few, le-leb (length key) 256 many))
-
   pub key-reply-read : (half clock : ℕ) (a : Assoc) (f : Fields) → ShapedRecord a → InLimits half clock a → 1 ≤ half → half ≤ 302400
       → f .ak .0 ≤ 15 → f .said ≤ 16383
       → readOf Modem (answerOctets (keyReply clock a f) key ++ padding) ≡ readBack (keyReply clock a f) key

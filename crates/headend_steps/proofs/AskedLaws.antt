@@ -1,4 +1,5 @@
 -- What a call's passed questions say: the facts of each, from the answer `Done`.
+use mathlib.Core.Logic.{_⊎_, inl, inr}
 use mathlib.Core.Path.{_≡_, refl}
 use mathlib.Core.Bool.{Bool, true, false, _&&_}
 use mathlib.Core.List.{List, [], _∷_}
@@ -12,7 +13,7 @@ use Rattle.keys.specs.declared.refusal.Answer.the-variants.{Done, Refused}
 use Rattle.keys.specs.declared.refusal.Refusal.the-variants.{OutOfLimits, WrongLength, WrongIdentifier}
 use Rattle.keys.specs.Questions.{Question, firstNo, answerThen}
 use Rattle.keys.specs.Refusal.{isDone}
-use Rattle.keys.proofs.TestLaws.{both}
+use Rattle.keys.proofs.TestLaws.{both, either}
 use Rattle.association.specs.declared.listing.Listing.{Listing}
 use Rattle.association.specs.declared.search.Found.{Found}
 use Rattle.association.specs.Record.{saidFits}
@@ -23,6 +24,7 @@ use Rattle.headend_steps.specs.declared.answers.Reaction.{Reaction}
 use Rattle.headend_steps.specs.State.{withClock, answeredCall}
 use Rattle.headend_steps.specs.Entries.{entriesOf, knownOf}
 use Rattle.headend_steps.specs.Limits.{addressFits, listingFits, saidsDiffer, allApart, headFits}
+use Rattle.headend_steps.specs.Search.{recordsFit}
 use Rattle.headend_steps.specs.Listing.{listQuestions, listAnswer, listFor, grown}
 use Rattle.headend_steps.specs.Clock.{clockQuestions, clockAnswer, clockFor}
 use Rattle.headend_steps.specs.Receive.{recordSuits, identifierFits, receiveAnswer, calledFor, writtenFor, answerOctets}
@@ -35,6 +37,14 @@ not-done (Refused r) e d = cc
 then-done : (a b : Answer) → answerThen a b ≡ Done → (a ≡ Done) × (b ≡ Done)
 then-done Done b e = (refl, e)
 then-done (Refused r) b e = let z : _≡_ {A = ℕ} 0 1 = cc in absurd (omega arith)
+
+-- ---- the records in use are all lent, and none of those lent is out of its limits
+pub records-in : (h : HeadEnd) (bad len : ℕ) → recordsFit h bad len ≡ true → h .used ≤ len → h .used ≤ bad
+records-in h bad len e all = go (either (leb (h .used) bad) (leb len bad) e)
+  where
+    go : (leb (h .used) bad ≡ true) ⊎ (leb len bad ≡ true) → h .used ≤ bad
+    go (inl x) = leb-true (h .used) bad x
+    go (inr x) = omega (arith, leb-true len bad x, all)
 
 -- ---- a listing
 module _ (h : HeadEnd) (address allowed : ℕ) (l : Listing) where
@@ -65,10 +75,10 @@ module _ (h : HeadEnd) (address allowed : ℕ) (l : Listing) where
     unfolding listAnswer listQuestions
     list-asked e =
         let q = done-met (listQuestions h address allowed l bad clash len octets) e in
-        let a₄ = both (headFits h && leb (h .used) bad && addressFits address && leb allowed 1) (listingFits l) (q .0) in
-        let a₃ = both (headFits h && leb (h .used) bad && addressFits address) (leb allowed 1) (a₄ .0) in
-        let a₂ = both (headFits h && leb (h .used) bad) (addressFits address) (a₃ .0) in
-        let a₁ = both (headFits h) (leb (h .used) bad) (a₂ .0) in
+        let a₄ = both (headFits h && recordsFit h bad len && addressFits address && leb allowed 1) (listingFits l) (q .0) in
+        let a₃ = both (headFits h && recordsFit h bad len && addressFits address) (leb allowed 1) (a₄ .0) in
+        let a₂ = both (headFits h && recordsFit h bad len) (addressFits address) (a₃ .0) in
+        let a₁ = both (headFits h) (recordsFit h bad len) (a₂ .0) in
         let b₁ = both (leb (h .used) len) (eqb octets (l .count * 64)) (q .1 .0) in
         let d₂ = both (ltb (h .modems) 16 && leb (h .used + l .count) 64) (leb (h .used + l .count) len) (q .1 .1 .0) in
         let d₁ = both (ltb (h .modems) 16) (leb (h .used + l .count) 64) (d₂ .0) in
@@ -76,7 +86,7 @@ module _ (h : HeadEnd) (address allowed : ℕ) (l : Listing) where
         let n₁ = both (allApart address l (entriesOf h)) (leb (h .used) clash) (n₂ .0) in
         record {
           fits = a₁ .0;
-          records-fit = leb-true _ _ (a₁ .1);
+          records-fit = records-in h bad len (a₁ .1) (leb-true _ _ (b₁ .0));
           address-fits = a₂ .1;
           flag = leb-true _ _ (a₃ .1);
           listing-fits = a₄ .1;
@@ -112,12 +122,12 @@ module _ (h : HeadEnd) (t : ℕ) where
     unfolding clockAnswer clockQuestions
     clock-asked e =
         let q = done-met (clockQuestions h t bad len octets) e in
-        let a₁ = both (headFits h) (leb (h .used) bad) (q .0) in
+        let a₁ = both (headFits h) (recordsFit h bad len) (q .0) in
         let b₁ = both (leb (h .used) len) (eqb octets (h .used * 64)) (q .1 .0) in
         let d₁ = both (leb (h .clock) t) (leb t 1000000000000) (q .1 .1 .0) in
         record {
           fits = a₁ .0;
-          records-fit = leb-true _ _ (a₁ .1);
+          records-fit = records-in h bad len (a₁ .1) (leb-true _ _ (b₁ .0));
           lent = leb-true _ _ (b₁ .0);
           material = eqb-true _ _ (b₁ .1);
           on = leb-true _ _ (d₁ .0);
@@ -152,7 +162,7 @@ module _ (h : HeadEnd) (bad len : ℕ) (s : Found) (address : ℕ) (digest : Boo
   first =
       record {
         refusal = OutOfLimits;
-        met = headFits h && leb (h .used) bad && addressFits address && saidFits (r .fields .said) && recordSuits h len s (knownOf h address) digest (r .fields);
+        met = headFits h && recordsFit h bad len && addressFits address && saidFits (r .fields .said) && recordSuits h len s (knownOf h address) digest (r .fields);
       }
       ∷ record { refusal = WrongLength; met = leb 342 lent && leb 1 key && leb key 256 && leb (h .used) len }
       ∷ []
@@ -167,16 +177,16 @@ module _ (h : HeadEnd) (bad len : ℕ) (s : Found) (address : ℕ) (digest : Boo
       let p = then-done (firstNo first) (answerThen (r .answer) (firstNo last)) e in
       let p′ = then-done (r .answer) (firstNo last) (p .1) in
       let q = done-met first (p .0) in
-      let a₄ = both (headFits h && leb (h .used) bad && addressFits address && saidFits (r .fields .said)) (recordSuits h len s k digest (r .fields)) (q .0) in
-      let a₃ = both (headFits h && leb (h .used) bad && addressFits address) (saidFits (r .fields .said)) (a₄ .0) in
-      let a₂ = both (headFits h && leb (h .used) bad) (addressFits address) (a₃ .0) in
-      let a₁ = both (headFits h) (leb (h .used) bad) (a₂ .0) in
+      let a₄ = both (headFits h && recordsFit h bad len && addressFits address && saidFits (r .fields .said)) (recordSuits h len s k digest (r .fields)) (q .0) in
+      let a₃ = both (headFits h && recordsFit h bad len && addressFits address) (saidFits (r .fields .said)) (a₄ .0) in
+      let a₂ = both (headFits h && recordsFit h bad len) (addressFits address) (a₃ .0) in
+      let a₁ = both (headFits h) (recordsFit h bad len) (a₂ .0) in
       let b₃ = both (leb 342 lent && leb 1 key && leb key 256) (leb (h .used) len) (q .1 .0) in
       let b₂ = both (leb 342 lent && leb 1 key) (leb key 256) (b₃ .0) in
       let b₁ = both (leb 342 lent) (leb 1 key) (b₂ .0) in
       record {
         fits = a₁ .0;
-        records-fit = leb-true _ _ (a₁ .1);
+        records-fit = records-in h bad len (a₁ .1) (leb-true _ _ (b₃ .1));
         address-fits = a₂ .1;
         said-fits = a₃ .1;
         record-suits = a₄ .1;

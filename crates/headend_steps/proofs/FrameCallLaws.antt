@@ -35,6 +35,7 @@ use Rattle.keys.specs.declared.sealing.SealedCall.{SealedCall}
 use Rattle.headend_steps.specs.declared.frames.OpenedCall.{OpenedCall}
 use Rattle.headend_steps.specs.Entries.{knownOf}
 use Rattle.headend_steps.specs.Limits.{addressFits, headFits as stateFits}
+use Rattle.headend_steps.specs.Search.{recordsFit}
 use Rattle.headend_steps.specs.Receive.{answerOctets, Writable}
 use Rattle.headend_steps.specs.Frames.{isOwn, heldSuits, frameFits, sealAnswer, openAnswer, openingIn, countedBy, invalidFields, invalidOctets, HeadOpened, openedFor}
 use Rattle.headend_steps.specs.FrameCalled.{openCalled, Openable}
@@ -44,8 +45,8 @@ module _ (h : HeadEnd) (bad len : ℕ) (s : Found) (address said : ℕ) where
   said-small : frameFits h bad len s address said ≡ true → said ≤ 16383
   unfolding frameFits
   said-small e =
-      let a₂ = both (stateFits h && leb (h .used) bad && addressFits address && saidFits said) (heldSuits h len s (knownOf h address) said) e in
-      let a₁ = both (stateFits h && leb (h .used) bad && addressFits address) (saidFits said) (a₂ .0) in
+      let a₂ = both (stateFits h && recordsFit h bad len && addressFits address && saidFits said) (heldSuits h len s (knownOf h address) said) e in
+      let a₁ = both (stateFits h && recordsFit h bad len && addressFits address) (saidFits said) (a₂ .0) in
       leb-true said 16383 (a₁ .1)
 
   pub seal-room : (tek vector : ℕ) → sealAnswer h bad len s address said tek vector ≡ Done → (16 ≤ tek) × (16 ≤ vector)

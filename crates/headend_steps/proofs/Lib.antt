@@ -4,7 +4,6 @@ pub mod ListingLaws
 pub mod LimitsLaws
 pub mod AskedLaws
 pub mod AnswersLaws
-pub mod ReadingLaws
 pub mod AnswerFields
 pub mod AnswerFits
 pub mod AnswersRead

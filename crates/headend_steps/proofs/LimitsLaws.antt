@@ -186,9 +186,6 @@ pub record HeadIn (h : HeadEnd) : Type 0 where
   pub entries : entriesFrom (h .settings .ak .life) (h .clock) [] (entriesOf h) ≡ true
   pub ak-low : 86400 ≤ h .settings .ak .life
   pub ak-high : h .settings .ak .life ≤ 6048000
-  pub tek-even : h .settings .tek .life % 2 ≡ 0
-  pub tek-low : 1800 ≤ h .settings .tek .life
-  pub tek-high : h .settings .tek .life ≤ 604800
   pub half-low : 900 ≤ halfIn h
   pub half-high : halfIn h ≤ 302400
   pub half-twice : halfIn h + halfIn h ≡ h .settings .tek .life
@@ -221,9 +218,6 @@ head-facts h e =
       entries = s₄ .1;
       ak-low = leb-true _ _ (a₁ .0);
       ak-high = leb-true _ _ (a₁ .1);
-      tek-even = even;
-      tek-low = low;
-      tek-high = high;
       half-low = omega arith;
       half-high = omega arith;
       half-twice = omega arith;

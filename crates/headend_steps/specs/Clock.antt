@@ -10,6 +10,7 @@ use Rattle.keys.specs.Questions.{Question, firstNo}
 use Rattle.headend_steps.specs.declared.state.HeadEnd.{HeadEnd}
 use Rattle.headend_steps.specs.declared.state.Called.{Called}
 use Rattle.headend_steps.specs.State.{withClock, answeredCall}
+use Rattle.headend_steps.specs.Search.{recordsFit}
 use Rattle.headend_steps.specs.Limits.{headFits}
 
 -- With `bad` the place of the first record out of its limits, `len` records and `octets` octets of material lent: the state and the
@@ -17,7 +18,7 @@ use Rattle.headend_steps.specs.Limits.{headFits}
 -- and at most 10^12
 unfoldable pub clockQuestions : HeadEnd → ℕ → ℕ → ℕ → ℕ → List Question
 clockQuestions h t bad len octets =
-    record { refusal = OutOfLimits; met = headFits h && leb (h .used) bad }
+    record { refusal = OutOfLimits; met = headFits h && recordsFit h bad len }
     ∷ record { refusal = WrongLength; met = leb (h .used) len && eqb octets (h .used * 64) }
     ∷ record { refusal = ClockOutOfOrder; met = leb (h .clock) t && leb t 1000000000000 }
     ∷ []

@@ -10,38 +10,34 @@ use Rattle.keys.specs.declared.refusal.Answer.the-variants.{Done, Refused}
 use Rattle.keys.specs.declared.refusal.Refusal.the-variants.{OutOfLimits, WrongLength, UnknownSaid, NoKeyForFrame}
 use Rattle.keys.specs.Numbers.{tekInRange}
 use Rattle.keys.specs.Suites.{widthOf}
-use Rattle.keys.specs.Questions.{Question, firstNo}
+use Rattle.keys.specs.Questions.{firstNo}
 use Rattle.keys.specs.Refusal.{answerNumber}
 use Rattle.keys.specs.Frame.{serves, openingOf}
-use Rattle.keys.specs.Sealing.{KeyOut, noOut, Sealed, sealedFor, openedBy, oneMore}
+use Rattle.keys.specs.Sealing.{KeyOut, noOut, Sealed, sealedFor, openedBy, oneMore, countedAs}
 use Rattle.association.specs.declared.search.Found.{Found}
-use Rattle.association.specs.Record.{saidFits, recordFits}
+use Rattle.association.specs.Record.{saidFits}
 use Rattle.wire.specs.declared.fields.Fields.{Fields}
 use Rattle.wire.specs.Writing.{messageOf, noDigest}
 use Rattle.headend_steps.specs.declared.state.HeadEnd.{HeadEnd}
 use Rattle.headend_steps.specs.declared.entries.Known.{Known}
 use Rattle.headend_steps.specs.Authorization.{newestNumber}
-use Rattle.headend_steps.specs.Entries.{knownOf, lists, listsSuite}
+use Rattle.headend_steps.specs.Entries.{knownOf, lists}
 use Rattle.headend_steps.specs.Limits.{addressFits, headFits}
-use Rattle.headend_steps.specs.Search.{halfIn}
+use Rattle.headend_steps.specs.Search.{recordsFit, foundSuits}
 use Rattle.headend_steps.specs.Answers.{errorAnswer}
 
 -- 10: the SAID is this modem's
 abbrev pub isOwn : Known → ℕ → Bool
 isOwn k said = k .«is_listed» && lists (k .entry .listing) said
 
--- A part of question 1, where the SAID is this modem's and all records in use are lent: its record is one of them, within its
--- limits, with the suite that the modem's entry names
+-- A part of question 1, where the SAID is this modem's: the record that was found for it suits
 unfoldable pub heldSuits : HeadEnd → ℕ → Found → Known → ℕ → Bool
-heldSuits h len s k said =
-    not (isOwn k said)
-    || ltb len (h .used)
-    || (ltb (s .at) (h .used) && recordFits (halfIn h) (h .clock) (s .held) && listsSuite (k .entry .listing) said (s .held .suite))
+heldSuits h len s k said = not (isOwn k said) || foundSuits h len s k said
 
 -- Question 1 of a frame's address and SAID
 unfoldable pub frameFits : HeadEnd → ℕ → ℕ → Found → ℕ → ℕ → Bool
 frameFits h bad len s address said =
-    headFits h && leb (h .used) bad && addressFits address && saidFits said && heldSuits h len s (knownOf h address) said
+    headFits h && recordsFit h bad len && addressFits address && saidFits said && heldSuits h len s (knownOf h address) said
 
 -- ---- sealing: 1, 2 and 10, then the older key
 unfoldable pub sealAnswer : HeadEnd → ℕ → ℕ → Found → ℕ → ℕ → ℕ → ℕ → Answer
@@ -69,7 +65,7 @@ openAnswer h bad len s direction address said number tek vector lent =
     ∷ record { refusal = NoKeyForFrame; met = serves (h .clock) number (s .held .older) || serves (h .clock) number (s .held .newer) }
     ∷ [])
 
--- A frame opened adds one to those taken, an opening refused with 10 or 13 one to those refused
+-- The head-end with other counts of frames
 abbrev pub withCounts : HeadEnd → ℕ → ℕ → HeadEnd
 withCounts h taken refused =
     record {
@@ -82,11 +78,9 @@ withCounts h taken refused =
       refused = refused;
     }
 
+-- The head-end after an opening that is answered with document 01's number n
 unfoldable pub countedBy : ℕ → HeadEnd → HeadEnd
-countedBy n h =
-    cond (eqb n 0) (withCounts h (oneMore (h .taken)) (h .refused))
-    (cond (eqb n 10 || eqb n 13) (withCounts h (h .taken) (oneMore (h .refused)))
-    h)
+countedBy n h = countedAs n (withCounts h (oneMore (h .taken)) (h .refused)) (withCounts h (h .taken) (oneMore (h .refused))) h
 
 -- On 13 a TEK Invalid: error 4, the number of the modem's newest authorization key; none where no key is active
 abbrev pub invalidFields : Known → ℕ → Fields

@@ -13,6 +13,7 @@ use Rattle.headend_steps.specs.declared.state.HeadEnd.{HeadEnd}
 use Rattle.headend_steps.specs.declared.state.Called.{Called}
 use Rattle.headend_steps.specs.State.{noKeys, withEntries, answeredCall}
 use Rattle.headend_steps.specs.Entries.{entriesOf}
+use Rattle.headend_steps.specs.Search.{recordsFit}
 use Rattle.headend_steps.specs.Limits.{addressFits, listingFits, saidsDiffer, allApart, headFits}
 
 -- With `bad` the place of the first record out of its limits, `clash` that of the first record with one of the SAIDs, `len` records and
@@ -23,7 +24,7 @@ unfoldable pub listQuestions : HeadEnd → ℕ → ℕ → Listing → ℕ → �
 listQuestions h address allowed l bad clash len octets =
     record {
       refusal = OutOfLimits;
-      met = headFits h && leb (h .used) bad && addressFits address && leb allowed 1 && listingFits l;
+      met = headFits h && recordsFit h bad len && addressFits address && leb allowed 1 && listingFits l;
     }
     ∷ record { refusal = WrongLength; met = leb (h .used) len && eqb octets (l .count * 64) }
     ∷ record {

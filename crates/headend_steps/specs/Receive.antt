@@ -3,14 +3,14 @@ use mathlib.Core.Path.{_≡_}
 use mathlib.Core.Bool.{Bool, true, false, cond, _&&_, _||_, not}
 use mathlib.Core.List.{List, [], _∷_}
 use Prim.Native.Nat.{ℕ, _≤_}
-use lib.Dec.{leb, ltb, eqb}
+use lib.Dec.{leb, eqb}
 use lib.ListN.{length}
 use Rattle.keys.specs.declared.refusal.Answer.{Answer}
 use Rattle.keys.specs.declared.refusal.Answer.the-variants.{Done, Refused}
 use Rattle.keys.specs.declared.refusal.Refusal.the-variants.{OutOfLimits, WrongLength, WrongIdentifier}
 use Rattle.keys.specs.Questions.{firstThen}
 use Rattle.association.specs.declared.search.Found.{Found}
-use Rattle.association.specs.Record.{saidFits, recordFits}
+use Rattle.association.specs.Record.{saidFits}
 use Rattle.wire.specs.declared.fields.Fields.{Fields}
 use Rattle.wire.specs.declared.fields.Reading.{Reading}
 use Rattle.wire.specs.Limits.{fieldsFit, authKeyFits}
@@ -20,20 +20,17 @@ use Rattle.headend_steps.specs.declared.state.Called.{Called}
 use Rattle.headend_steps.specs.declared.entries.Known.{Known}
 use Rattle.headend_steps.specs.declared.answers.Reaction.{Reaction}
 use Rattle.headend_steps.specs.State.{answeredCall}
-use Rattle.headend_steps.specs.Entries.{knownOf, listsSuite}
+use Rattle.headend_steps.specs.Entries.{knownOf}
 use Rattle.headend_steps.specs.Limits.{addressFits, headFits}
-use Rattle.headend_steps.specs.Search.{halfIn}
+use Rattle.headend_steps.specs.Search.{recordsFit, foundSuits}
 use Rattle.headend_steps.specs.Answers.{keyAnswer, reactionOf}
 
 -- ---- questions
 
--- Where a Key Request gets a Key Reply, and all records in use are lent: the SAID's record is one of them, within its limits, with
--- the suite that the modem's entry names
+-- A part of question 1, where a Key Request gets a Key Reply: the record that was found for its SAID suits
 unfoldable pub recordSuits : HeadEnd → ℕ → Found → Known → Bool → Fields → Bool
 recordSuits h len s k digest f =
-    not (eqb (f .code) 7 && eqb (keyAnswer (h .clock) k (s .held) digest f .code) 8)
-    || ltb len (h .used)
-    || (ltb (s .at) (h .used) && recordFits (halfIn h) (h .clock) (s .held) && listsSuite (k .entry .listing) (f .said) (s .held .suite))
+    not (eqb (f .code) 7 && eqb (keyAnswer (h .clock) k (s .held) digest f .code) 8) || foundSuits h len s k (f .said)
 
 -- 11: message 12 carries 0
 unfoldable pub identifierFits : Fields → Bool
@@ -47,7 +44,7 @@ receiveAnswer h bad len s address digest r key lent =
     firstThen
     (record {
       refusal = OutOfLimits;
-      met = headFits h && leb (h .used) bad && addressFits address && saidFits (r .fields .said) && recordSuits h len s (knownOf h address) digest (r .fields);
+      met = headFits h && recordsFit h bad len && addressFits address && saidFits (r .fields .said) && recordSuits h len s (knownOf h address) digest (r .fields);
     }
     ∷ record { refusal = WrongLength; met = leb 342 lent && leb 1 key && leb key 256 && leb (h .used) len }
     ∷ [])

@@ -1,7 +1,7 @@
 // The fields of the head-end's answers, and which answer a request gets.
 ghost use mathlib.Core.Path.{_≡_};
 ghost use Prim.Native.Nat.{_<_};
-ghost use Rattle.headend_steps.specs.Authorization.{Countable, lifeLeft};
+ghost use Rattle.headend_steps.specs.Authorization.{lifeLeft};
 ghost use Rattle.headend_steps.specs.Answers.{errorAnswer, descriptorAt, replyAnswer, paramsAt, keyReply, keyAnswer, withKeys, requestReaction, ReactionFits, reactionOf};
 use crate::authorization::granted;
 use crate::authorization::is_active;

@@ -4,6 +4,7 @@ ghost use Rattle.headend_steps.specs.State.{withClock};
 ghost use Rattle.headend_steps.specs.Clock.{clockAnswer, clockCalled};
 use crate::limits::head_fits;
 use crate::listing::is_material;
+use crate::search::records_fit;
 use crate::state::Called;
 use crate::state::HeadEnd;
 use crate::state::answered;
@@ -17,7 +18,7 @@ fn clock_answer(h: HeadEnd, t: u64, bad: usize, len: usize, octets: usize) -> An
     ensures { λ r. ⌜ r ≡ clockAnswer h t bad len octets ⌝ }
 {
     let used = h.used;
-    let q1 = head_fits(h) & (used <= bad);
+    let q1 = head_fits(h) & records_fit(h, bad, len);
     let q2 = (used <= len) & is_material(octets, used);
     let q3 = (h.clock <= t) & (t <= 1000000000000);
     let a3 = ask(q3, Refusal::ClockOutOfOrder, Answer::Done);

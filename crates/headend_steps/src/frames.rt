@@ -12,13 +12,12 @@ use crate::authorization::newest;
 use crate::entries::Known;
 use crate::entries::entry_of;
 use crate::entries::is_listing;
-use crate::entries::is_listing_suite;
 use crate::limits::address_fits;
 use crate::limits::head_fits;
 use crate::receive::put_answer;
-use crate::search::half_in;
+use crate::search::found_suits;
+use crate::search::records_fit;
 use crate::state::HeadEnd;
-use association::record::record_fits;
 use association::record::said_fits;
 use association::search::Found;
 use keys::frame::Opening;
@@ -66,18 +65,11 @@ fn is_own(k: Known, said: u16) -> bool
     k.is_listed & is_listing(l, said)
 }
 
-// Question 1 of the record that a frame's key is taken from: it is there, within its limits, and has the suite that the entry names.
+// Question 1 of the record that a frame's key is taken from.
 fn held_suits(h: HeadEnd, len: usize, s: Found, k: Known, said: u16) -> bool
     ensures { λ r. ⌜ r ≡ heldSuits h len s k said ⌝ }
 {
-    let a = s.held;
-    let e = k.entry;
-    let l = e.listing;
-    !is_own(k, said)
-        | (len < h.used)
-        | ((s.at < h.used)
-            & record_fits(a, half_in(h), h.clock)
-            & is_listing_suite(l, said, a.suite))
+    !is_own(k, said) | found_suits(h, len, s, k, said)
 }
 
 // Question 1 of a frame's address and SAID.
@@ -86,7 +78,7 @@ fn frame_fits(h: HeadEnd, bad: usize, len: usize, s: Found, address: u64, said: 
 {
     let k = entry_of(h, address);
     head_fits(h)
-        & (h.used <= bad)
+        & records_fit(h, bad, len)
         & address_fits(address)
         & said_fits(said)
         & held_suits(h, len, s, k, said)

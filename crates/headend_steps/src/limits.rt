@@ -2,7 +2,7 @@
 ghost use mathlib.Core.Path.{_≡_};
 ghost use mathlib.Core.List.{[]};
 ghost use Prim.Native.Nat.{_<_};
-ghost use lib.ListN.{take, getD};
+ghost use lib.ListN.{take};
 ghost use Rattle.headend_steps.specs.Limits.{addressFits, placeFits, listingFits, newAt, saidsDiffer, later, authKeysFit, entryFits, sharesAt, shares, isApart, allApart, entriesFrom, headFits};
 use crate::entries::in_use;
 use crate::entries::is_listing;

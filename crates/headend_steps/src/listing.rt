@@ -8,6 +8,7 @@ use crate::limits::all_apart;
 use crate::limits::head_fits;
 use crate::limits::listing_fits;
 use crate::limits::saids_differ;
+use crate::search::records_fit;
 use crate::state::AuthKeys;
 use crate::state::Called;
 use crate::state::Entry;
@@ -55,7 +56,7 @@ fn list_answer(
     let count = l.count;
     let used = h.used;
     let q1 = head_fits(h)
-        & (used <= bad)
+        & records_fit(h, bad, len)
         & address_fits(address)
         & (allowed <= 1)
         & listing_fits(l);

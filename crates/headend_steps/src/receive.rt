@@ -9,14 +9,13 @@ use crate::answers::key_answer;
 use crate::answers::react;
 use crate::entries::Known;
 use crate::entries::entry_of;
-use crate::entries::is_listing_suite;
 use crate::limits::address_fits;
 use crate::limits::head_fits;
-use crate::search::half_in;
+use crate::search::found_suits;
+use crate::search::records_fit;
 use crate::state::Called;
 use crate::state::HeadEnd;
 use crate::state::answered;
-use association::record::record_fits;
 use association::record::said_fits;
 use association::search::Found;
 use keys::refusal::Answer;
@@ -37,19 +36,13 @@ pub fn read_request(message: &[u8]) -> Reading
     read(Receiver::HeadEnd, message)
 }
 
-// Question 1 of the record that a Key Reply is made from: it is there, within its limits, and has the suite that the entry names.
+// Question 1 of the record that a Key Reply is made from.
 fn record_suits(h: HeadEnd, len: usize, s: Found, k: Known, digest: bool, f: Fields) -> bool
     ensures { λ r. ⌜ r ≡ recordSuits h len s k digest f ⌝ }
 {
     let a = s.held;
-    let e = k.entry;
-    let l = e.listing;
     let answer = key_answer(h.clock, k, a, digest, f);
-    !((f.code == 7) & (answer.code == 8))
-        | (len < h.used)
-        | ((s.at < h.used)
-            & record_fits(a, half_in(h), h.clock)
-            & is_listing_suite(l, f.said, a.suite))
+    !((f.code == 7) & (answer.code == 8)) | found_suits(h, len, s, k, f.said)
 }
 
 // Question 11: Authentication Information has Identifier 0.
@@ -77,7 +70,7 @@ fn receive_answer(
     let f = r.fields;
     let k = entry_of(h, address);
     let q1 = head_fits(h)
-        & (h.used <= bad)
+        & records_fit(h, bad, len)
         & address_fits(address)
         & said_fits(f.said)
         & record_suits(h, len, s, k, digest, f);

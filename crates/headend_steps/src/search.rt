@@ -1,9 +1,13 @@
 // What the calls look for in the lent records.
 ghost use mathlib.Core.Path.{_≡_};
 ghost use Rattle.association.specs.declared.search.Probe.the-variants.{OfSaid};
-ghost use Rattle.headend_steps.specs.Search.{halfIn, outOfLimits, oneOf, ofRequest};
+ghost use Rattle.headend_steps.specs.Search.{halfIn, outOfLimits, oneOf, recordsFit, ofRequest, foundSuits};
+use crate::entries::Known;
+use crate::entries::is_listing_suite;
 use crate::state::HeadEnd;
 use association::listing::Listing;
+use association::record::record_fits;
+use association::search::Found;
 use association::search::Probe;
 use keys::settings::half;
 use wire::fields::Reading;
@@ -32,6 +36,13 @@ pub fn one_of(l: Listing) -> Probe
     Probe::OfOneOf(l.count, s[0], s[1], s[2], s[3])
 }
 
+// No record that is in use and lent is out of its limits: `bad` is the place of the first lent one that is, or `len`, the number lent.
+pub fn records_fit(h: HeadEnd, bad: usize, len: usize) -> bool
+    ensures { λ r. ⌜ r ≡ recordsFit h bad len ⌝ }
+{
+    (h.used <= bad) | (len <= bad)
+}
+
 // The record of the SAID that a message carries.
 pub fn of_request(r: Reading) -> Probe
     ensures { λ p. ⌜ p ≡ ofRequest r ⌝ }
@@ -45,4 +56,18 @@ pub fn of_said(said: u16) -> Probe
     ensures { λ p. ⌜ p ≡ OfSaid said ⌝ }
 {
     Probe::OfSaid(said)
+}
+
+// A part of question 1, with `s` what was found for a modem's SAID and `len` records lent: it is one of the records in use, within its
+// limits, and has the suite that the entry names.
+pub fn found_suits(h: HeadEnd, len: usize, s: Found, k: Known, said: u16) -> bool
+    ensures { λ r. ⌜ r ≡ foundSuits h len s k said ⌝ }
+{
+    let a = s.held;
+    let e = k.entry;
+    let l = e.listing;
+    (len < h.used)
+        | ((s.at < h.used)
+            & record_fits(a, half_in(h), h.clock)
+            & is_listing_suite(l, said, a.suite))
 }

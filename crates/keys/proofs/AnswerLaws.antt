@@ -1,6 +1,6 @@
 -- What an answer says of the questions of a call, over any list of them; and the numbers of answers.
 use Prim.Native.Nat.{ℕ, zero, suc}
-use mathlib.Core.Path.{_≡_, refl, sym, ap, _∙_}
+use mathlib.Core.Path.{_≡_, refl, ap}
 use mathlib.Core.List.{List, [], _∷_}
 use mathlib.Core.Bool.{Bool, true, false, cond}
 use native.Mathlib.Omega.{arith}
@@ -49,14 +49,6 @@ refused-no r (q ∷ qs) e = go (q .met) refl e (λ d. refused-no r qs d)
         → (n : ℕ) × NoAt n r (q ∷ qs)
     go true m e ih = let f = ih e in (suc (f .0), (m, f .1))
     go false m e ih = let same : q .refusal ≡ r = cc in (zero, (m, same))
-
--- at one place only
-pub no-once : (n m : ℕ) (r t : Refusal) (qs : List Question) → NoAt n r qs → NoAt m t qs → n ≡ m
-no-once n m r t [] h g = absurd h
-no-once zero zero r t (q ∷ qs) h g = refl
-no-once zero (suc m) r t (q ∷ qs) h g = let z : true ≡ false = sym (g .0) ∙ h .0 in let y : _≡_ {A = ℕ} 0 1 = cc in absurd (omega arith)
-no-once (suc n) zero r t (q ∷ qs) h g = let z : true ≡ false = sym (h .0) ∙ g .0 in let y : _≡_ {A = ℕ} 0 1 = cc in absurd (omega arith)
-no-once (suc n) (suc m) r t (q ∷ qs) h g = ap suc (no-once n m r t qs (h .1) (g .1))
 
 -- ---- done, or not
 pub is-done : (a : Answer) → isDone a ≡ true → a ≡ Done

@@ -1,13 +1,12 @@
 -- Laws of `specs/Octets.antt`, for any width.
 use mathlib.Core.Path.{_≡_, refl, sym, _∙_, ap}
-use mathlib.Core.Bool.{Bool, true, false, _&&_}
+use mathlib.Core.Bool.{true, false}
 use Prim.Native.Nat.{ℕ, zero, suc, _+_, _-_, _<_, _≤_}
 use mathlib.Core.List.{List, [], _∷_, _++_}
 use native.Mathlib.Numerals.{add-one}
 use native.Mathlib.Omega.{arith}
-use lib.Dec.{eqb}
 use lib.ListN.{length, take, drop, getD, set, replicate, length-append, length-drop, List·getD-append, drop-of-length-le}
-use lib.Seq.{take-suc, set-at, append-snoc, length-take-le, getD-drop, getD-take, getD-append-add, drop-cons, take-all}
+use lib.Seq.{take-suc, set-at, append-snoc, length-take-le, getD-drop, getD-take, getD-append-add, drop-cons}
 use borrow.Author.Tests.{eq-eqb, ne-eqb}
 use Rattle.keys.specs.Octets.{padded, octetsOf, allZero, zeroPast, overlay}
 

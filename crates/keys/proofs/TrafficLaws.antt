@@ -1,14 +1,11 @@
 -- Laws of the limits of held keys (`specs/Traffic.antt`).
-use mathlib.Core.Path.{_≡_, refl}
-use mathlib.Core.Bool.{Bool, true}
+use mathlib.Core.Path.{_≡_}
+use mathlib.Core.Bool.{true}
 use Prim.Native.Nat.{ℕ, _+_, _%_, _≤_}
 use native.Mathlib.Omega.{arith}
-use lib.Dec.{leb, eqb}
 use borrow.Author.Tests.{le-leb, eq-eqb}
 use Rattle.keys.specs.declared.numbers.TekNumber.{TekNumber}
-use Rattle.keys.specs.declared.traffic.TrafficKey.{TrafficKey}
-use Rattle.keys.specs.Numbers.{afterOf, tekNumber, tekInRange, sameTek}
-use Rattle.keys.specs.Traffic.{keyFits, follows}
+use Rattle.keys.specs.Numbers.{afterOf, tekInRange, sameTek}
 
 pub after-in-range : (n : TekNumber) (k : ℕ) → tekInRange (afterOf n k) ≡ true
 after-in-range n k =

@@ -1,8 +1,8 @@
 -- What sealing and opening a frame give, and the count of frames (document 01, "Traffic keys at the head-end" and "The questions, in order").
-use mathlib.Core.Bool.{Bool, cond}
+use mathlib.Core.Bool.{cond, _||_}
 use mathlib.Core.List.{List, []}
 use Prim.Native.Nat.{ℕ, _+_}
-use lib.Dec.{leb}
+use lib.Dec.{leb, eqb}
 use lib.ListN.{length, take}
 use Rattle.keys.specs.declared.numbers.TekNumber.{TekNumber}
 use Rattle.keys.specs.declared.traffic.TrafficKey.{TrafficKey}
@@ -46,3 +46,8 @@ openedBy ByNeither w older newer = noOut
 -- One more frame, up to 2^64 - 1
 unfoldable pub oneMore : ℕ → ℕ
 oneMore n = cond (leb 18446744073709551615 n) n (n + 1)
+
+-- Which count an opening answered with document 01's number n changes, at either end: a frame opened adds one to those taken, an opening
+-- refused with 10 or 13 one to those refused, and any other changes neither
+abbrev pub countedAs : {A : Type 0} → ℕ → A → A → A → A
+countedAs n taken refused same = cond (eqb n 0) taken (cond (eqb n 10 || eqb n 13) refused same)

@@ -1,4 +1,4 @@
--- What questions 1 and 2 of a call, and an accepted message whose SAID is known, give to the steps that follow.
+-- What question 1 of a call, and an accepted message whose SAID is known, give to the steps that follow.
 use mathlib.Core.Path.{_≡_, refl}
 use mathlib.Core.List.{List, []}
 use mathlib.Core.Bool.{Bool, true, false, _&&_, cond}
@@ -8,7 +8,6 @@ use lib.Dec.{leb}
 use borrow.Author.Tests.{leb-true, ltb-true}
 use Rattle.keys.specs.declared.refusal.Answer.the-variants.{Done}
 use Rattle.keys.specs.declared.settings.Settings.{Settings}
-use Rattle.keys.specs.Questions.{firstNo}
 use Rattle.keys.specs.Settings.{tekTimesFit, akTimesFit, waitFits, waitsFit, settingsFit}
 use Rattle.keys.proofs.TestLaws.{both}
 use Rattle.wire.specs.declared.fields.Receiver.the-variants.{Modem as AtModem}
@@ -19,7 +18,6 @@ use Rattle.wire.specs.Fields.{carried, paramsOf, fieldsOf}
 use Rattle.wire.specs.Reading.{takenOf}
 use Rattle.wire.proofs.HoldsLaws.{never}
 use Rattle.wire.proofs.CodesLaws.{by-code}
-use Rattle.keys.proofs.AnswerLaws.{done-met}
 use Rattle.wire.proofs.MessageAnswers.{answer-done}
 use Rattle.wire.proofs.PartsWritten.{params-fit}
 use Rattle.wire.proofs.PartsRead.{params-read-fit}
@@ -30,7 +28,6 @@ use Rattle.modem_steps.specs.State.{ReadyAt, Ready}
 use Rattle.modem_steps.specs.Slots.{slotOfSaid}
 use Rattle.modem_steps.specs.Receive.{ofSaid, isKnown, saidKnown, fieldsIn, Takeable}
 use Rattle.modem.specs.Limits.{modemFits}
-use Rattle.modem.specs.Calls.{firstQuestions}
 
 -- ---- a modem within its limits is ready
 wait-small : (n : ℕ) → waitFits n ≡ true → n ≤ 600
@@ -68,15 +65,6 @@ fits-ready m e =
     let s₂ = both _ _ (s₃ .0) in
     let s₁ = both _ _ (s₂ .0) in
     waits-ready (m .clock) (m .settings) (leb-true (m .clock) 1000000000000 (s₁ .1)) (s₁ .0)
-
--- questions 1 and 2 met
-pub asked-fits : (m : Modem) (lent : ℕ) → firstNo (firstQuestions m lent) ≡ Done → (modemFits m ≡ true) × (216 ≤ lent)
-asked-fits m lent e =
-    let h = done-met (firstQuestions m lent) e in
-    (h .0, leb-true 216 lent (h .1 .0))
-
-pub asked-ready : (m : Modem) (lent : ℕ) → firstNo (firstQuestions m lent) ≡ Done → Ready m
-asked-ready m lent e = fits-ready m (asked-fits m lent e .0)
 
 -- ---- the lives of an accepted message
 module _ (c i : ℕ) (l : List Item) (t : Taken c l) where

@@ -21,15 +21,13 @@ use Rattle.keys.proofs.AnswerLaws.{done-met}
 use Rattle.wire.proofs.MessageAnswers.{answer-done}
 use Rattle.modem_steps.specs.declared.state.Modem.{Modem}
 use Rattle.modem_steps.specs.declared.state.Work.{Work}
-use Rattle.modem_steps.specs.State.{withClock, starting, freshOf, Ready}
+use Rattle.modem_steps.specs.State.{starting, freshOf}
 use Rattle.modem_steps.specs.Machine.{plainEvent}
 use Rattle.modem_steps.specs.Clock.{clocked}
-use Rattle.modem_steps.specs.Receive.{widthsFit, saidKnown, identifierFits, digestHolds, fieldsIn, receiveQuestions, Takeable, received}
+use Rattle.modem_steps.specs.Receive.{widthsFit, saidKnown, identifierFits, digestHolds, fieldsIn, receiveQuestions, received}
 use Rattle.modem.specs.Limits.{modemFits}
 use Rattle.modem.specs.Messages.{outOctets}
 use Rattle.modem.specs.Calls.{Result, resultOf, firstQuestions, newQuestions, newFor, newOf, eventOf, establishedOf, reauthOf, clockFits, clockOf, receiveOf}
-use Rattle.modem.proofs.AskedLaws.{waits-ready, fits-ready, takeable}
-use Rattle.modem.proofs.LimitsLaws.{limits-of}
 use Rattle.modem.proofs.SentFits.{plain-short, clocked-short, message-short}
 use Rattle.modem.proofs.KeptMessages.{fresh-fits, plain-fits, clocked-fits, received-fits}
 
@@ -67,15 +65,6 @@ receive-asked m s digest lent e =
       answers = q .1 .1 .1 .1 .1 .0;
       holds = q .1 .1 .1 .1 .1 .1 .0;
     }
-
--- what the steps that follow ask
-pub clock-ready : (m : Modem) (t lent : ℕ) → firstNo (clockQuestions m t lent) ≡ Done → Ready (withClock m t)
-clock-ready m t lent e =
-    let a = clock-asked m t lent e in
-    waits-ready t (m .settings) (a .2) (limits-of m (a .0) .settings)
-
-pub receive-ready : (m : Modem) (s : List ℕ) (digest : Bool) → Asked m s digest → Ready m × Takeable m (fieldsIn s)
-receive-ready m s digest a = (fits-ready m (a .fits), takeable m s (a .read) (a .known))
 
 -- ---- a result keeps the limits and is short, where what is done does and is
 pub record Good (r : Result) : Type 0 where

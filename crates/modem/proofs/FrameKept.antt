@@ -2,7 +2,7 @@
 use mathlib.Core.Path.{_≡_, refl, sym, _∙_, ap}
 use mathlib.Core.Bool.{Bool, true, false, _&&_, _||_, cond}
 use mathlib.Core.List.{List}
-use Prim.Native.Nat.{ℕ, _≤_}
+use Prim.Native.Nat.{ℕ}
 use lib.Dec.{leb, eqb}
 use Rattle.keys.specs.declared.numbers.TekNumber.{TekNumber}
 use Rattle.keys.specs.declared.refusal.Answer.{Answer}
@@ -23,9 +23,8 @@ use Rattle.modem.specs.Calls.{resultOf, establishedOf, reauthOf, clockFi
 use Rattle.modem.specs.Frames.{withCounts, countedBy, openOf}
 use Rattle.modem.proofs.LimitsLaws.{limits-of, fits-by}
 use Rattle.modem.proofs.KeptSteps.{plain-told-kept}
-use Rattle.modem.proofs.CallLaws.{clockQuestions, clock-asked, established-good, reauth-good, clock-good, receive-good}
+use Rattle.modem.proofs.CallLaws.{clockQuestions, established-good, reauth-good, clock-good, receive-good}
 use Rattle.modem.proofs.PairSteps.{AllPairs, SameRest, starting-carries, told-carries}
-use Rattle.modem.proofs.PairLaws.{clock-done}
 use Rattle.modem.proofs.FrameLaws.{known-inside, open-by}
 
 -- ---- counting changes the counts alone
@@ -121,12 +120,6 @@ result-answer (Refused r) m w = refl
 clock-asks : (m : Modem) (t lent : ℕ) → clockOf m t lent .called .answer ≡ firstNo (clockQuestions m t lent)
 unfolding clockOf
 clock-asks m t lent = result-answer (firstNo (clockQuestions m t lent)) m (clocked m t)
-
-pub clock-answer : (m : Modem) (t lent : ℕ) → modemFits m ≡ true → clockOf m t lent .called .answer ≡ Done
-    → (m .clock ≤ t) × (t ≤ 1000000000000) × (clockOf m t lent .called .modem .clock ≡ t)
-clock-answer m t lent e d =
-    let a = clock-asked m t lent (sym (clock-asks m t lent) ∙ d) in
-    (a .1, a .2, clock-done m lent t d .clock)
 
 -- within the limits it depends on the clock and on the slice's length alone
 abbrev pub clockSays : ℕ → ℕ → ℕ → Answer

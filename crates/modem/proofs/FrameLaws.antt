@@ -77,7 +77,6 @@ known-inside m said e =
 pub record SealFacts (m : Modem) (said tek vector : ℕ) : Type 0 where
   pub fits : modemFits m ≡ true
   pub inside : slotOfSaid m said < m .used
-  pub in-four : slotOfSaid m said < 4
   pub said-is : machineOf m said .said ≡ said
   pub held : machineOf m said .pair .held ≡ 1
   pub counts : m .clock < machineOf m said .pair .newer .deadline
@@ -118,7 +117,6 @@ seal-facts m said tek vector e =
     record {
       fits = one .0;
       inside = found .0;
-      in-four = found .1;
       said-is = found .2;
       held = held;
       counts = ltb-true (m .clock) (k .deadline) (can .1);
@@ -165,7 +163,6 @@ module _ (m : Modem) (direction address said : ℕ) (number : TekNumber) (tek ve
 pub record OpenFacts (m : Modem) (address said : ℕ) (number : TekNumber) (o : ModemOpened) : Type 0 where
   pub done : o .answer ≡ Done
   pub inside : slotOfSaid m said < m .used
-  pub in-four : slotOfSaid m said < 4
   pub said-is : machineOf m said .said ≡ said
   pub held : machineOf m said .pair .held ≡ 1
   pub address-is : address ≡ m .address
@@ -219,7 +216,6 @@ opened-facts m address said number here can =
     record {
       done = refl;
       inside = found .0;
-      in-four = found .1;
       said-is = found .2;
       held = eqb-true (t .pair .held) 1 (c .0);
       address-is = eqb-true address (m .address) (at .0);

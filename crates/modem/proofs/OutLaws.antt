@@ -1,14 +1,13 @@
 -- Messages that go out can be written, and fit the 216 octets that a call is lent.
 use mathlib.Core.Path.{_≡_, refl, subst}
 use mathlib.Core.Bool.{Bool, true, false, cond}
-use mathlib.Core.List.{List, [], _∷_, _++_}
+use mathlib.Core.List.{List, [], _∷_}
 use Prim.Native.Nat.{ℕ, zero, suc, _+_, _*_, _≤_, _<_}
-use native.Mathlib.Numerals.{add-one}
 use native.Mathlib.Omega.{arith}
 use lib.Dec.{ltb, leb, eqb}
 use lib.ListN.{length, getD, set, take, length-append, length-set}
-use lib.Seq.{getD-set-same, getD-set-other, take-suc-set}
-use borrow.Author.Tests.{le-leb, lt-leb, eq-eqb, ne-eqb}
+use lib.Seq.{getD-set-same, getD-set-other}
+use borrow.Author.Tests.{le-leb, lt-leb, eq-eqb}
 use Rattle.keys.specs.declared.numbers.AkNumber.{AkNumber}
 use Rattle.keys.specs.Octets.{allZero, zeroPast}
 use Rattle.keys.proofs.ListLaws.{IfLt, if-lt}
@@ -17,7 +16,6 @@ use Rattle.wire.specs.Attributes.{two, attrOctets, octets}
 use Rattle.wire.specs.Ranges.{neededOf, among, needs}
 use Rattle.wire.specs.Limits.{headFits, keyOctetsZero, paramsZero, descriptorZero, placeFit, descriptorsZero, fieldsFit, authKeyFits}
 use Rattle.wire.specs.Writing.{itemsOfType, itemsOfTypes, itemsOf, message, messageOf}
-use Rattle.wire.proofs.FieldsFit.{Shaped}
 use Rattle.machines.specs.declared.authorization.Authorization.{Authorization}
 use Rattle.machines.specs.declared.authorization.AuthMoment.{AuthMoment}
 use Rattle.machines.specs.declared.tek.Request.{Request}
@@ -28,12 +26,9 @@ use Rattle.machines.specs.Tek.{nothing, keyRequest, sendsInto, identifierAfter,
 use Rattle.machines.specs.Authorization.{requestsInto, authIdentifier, informsOf, requestsOf, authMoved, authStays, authStepOf}
 use Rattle.modem_steps.specs.declared.state.Out.{Out}
 use Rattle.modem_steps.specs.State.{noOut, pushed}
-use Rattle.modem.specs.Messages.{requestFields, requestOctets, requestsOctets, outOctets, RequestFits, OutFits}
+use Rattle.modem.specs.Messages.{requestOctets, requestsOctets, outOctets, RequestFits, OutFits}
 
 -- ---- a message that can be written, in at most 36 octets
-pub request-shaped : (r : Request) → Shaped (requestFields r)
-request-shaped r = record { descriptors = refl; older = record { tek = refl; vector = refl }; newer = record { tek = refl; vector = refl } }
-
 -- Authentication Information, Auth Request
 abbrev pub information : Request
 information = record { code = 12; identifier = 0; ak = record { 0 = 0 }; said = 0 }
@@ -175,14 +170,6 @@ module _ (o : Out) (r : Request) where
           let space : o .count < 6 = omega (arith, f .count) in
           simp (lt-leb 6 (o .count) space)
           (record { count = omega (arith, f .count); each = more-each (f .six) space (f .each) q; six = simp length-set (f .six) })
-
-  -- it goes behind the others: none is dropped
-  pub pushed-behind : (n : ℕ) → n < 6 → OutFits o n → (r .code ≡ 0 → ⊥) → take (pushed o r .count) (pushed o r .sent) ≡ take (o .count) (o .sent) ++ (r ∷ [])
-  unfolding pushed
-  pushed-behind n room f some =
-      let space : o .count < 6 = omega (arith, f .count) in
-      let inside : o .count < length (o .sent) = omega (arith, f .six) in
-      simp (ne-eqb (r .code) 0 some, lt-leb 6 (o .count) space, add-one) (take-suc-set (o .sent) (o .count) r inside)
 
 -- ---- how many octets they have
 octets-most : (n : ℕ) (l : List Request) → ((i : ℕ) → i < n → RequestFits (getD l i nothing)) → length (requestsOctets (take n l)) ≤ 36 * n

@@ -73,7 +73,6 @@ pub record KeyReplyTaken (m : Modem) (s : List ℕ) (digest : Bool) : Type 0 whe
   pub fits : modemFits m ≡ true
   pub read : messageAnswer AtModem s ≡ Done
   pub code : fieldsIn s .code ≡ 8
-  pub in-four : slotOfSaid m (fieldsIn s .said) < 4
   pub in-use : slotOfSaid m (fieldsIn s .said) < m .used
   pub same : replySlot m s .said ≡ fieldsIn s .said
   pub older-wide : paramsWide (widthOf (replySlot m s .suite)) (fieldsIn s .older) ≡ true
@@ -98,7 +97,6 @@ reply-taken m s digest a eight =
       fits = a .fits;
       read = a .read;
       code = eight;
-      in-four = in-four;
       in-use = found .0;
       same = eqb-true (slotAt m i .said) (f .said) (found .1);
       older-wide = wide .0;

@@ -61,12 +61,6 @@ pub record Carries (Q : ℕ → ℕ → Pair → Type 0) (m : Modem) (w : Work) 
   pub pairs : AllPairs Q (w .modem)
   pub rest : SameRest m (w .modem)
 
--- ---- a blank leaves the machine as it is
-pub blank-stays : (t : Tek) (event : ℕ) (x : TekMoment) (older newer : Params) → eqb (tekNext event (t .state)) blank ≡ true
-    → tekStepOf t event x older newer .machine ≡ t
-unfolding tekStepOf
-blank-stays t event x older newer e = rw e refl
-
 -- a TEK machine's timer does not tell 8
 timer-event : (state : ℕ) → eqb (tekTimerEvent state) 8 ≡ false
 unfolding tekTimerEvent

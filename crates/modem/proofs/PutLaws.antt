@@ -2,14 +2,14 @@
 use mathlib.Core.Path.{_≡_, refl, sym, _∙_, ap}
 use mathlib.Core.Bool.{true}
 use mathlib.Core.List.{List, [], _∷_, _++_, append-assoc, append-nil}
-use Prim.Native.Nat.{ℕ, suc, _+_, _-_, _*_, _≤_, _<_}
+use Prim.Native.Nat.{ℕ, _+_, _-_, _≤_, _<_}
 use native.Mathlib.Numerals.{add-one}
 use native.Mathlib.Omega.{arith}
 use lib.Dec.{leb}
 use lib.ListN.{length, take, drop, getD, length-append, length-take, length-drop, drop-of-length-le}
-use lib.Seq.{sets, sets-eq, length-sets, take-all, take-suc, drop-drop}
+use lib.Seq.{sets, sets-eq, take-all, take-suc, drop-drop}
 use borrow.Author.Tests.{le-leb}
-use borrow.Rule.Slice.PartMut.{putMid, midOf, postOf}
+use borrow.Rule.Slice.PartMut.{putMid, midOf}
 use Rattle.keys.specs.Octets.{overlay}
 use Rattle.machines.specs.declared.tek.Request.{Request}
 use Rattle.machines.specs.Tek.{nothing}
@@ -17,8 +17,7 @@ use Rattle.wire.specs.declared.fields.Fields.{Fields}
 use Rattle.wire.specs.declared.fields.Writing.{Writing}
 use Rattle.wire.specs.Writing.{messageOf, noDigest, writeQuestions, writtenOf, writeOf}
 use Rattle.keys.proofs.StoreLaws.{sets-append}
-use Rattle.modem_steps.specs.declared.state.Out.{Out}
-use Rattle.modem.specs.Messages.{requestFields, requestOctets, requestsOctets, outOctets, RequestFits, OutFits}
+use Rattle.modem.specs.Messages.{requestFields, requestOctets, requestsOctets, RequestFits}
 
 -- ---- one message
 module _ (r : Request) (fits : RequestFits r) (lent : ℕ) (enough : 36 ≤ lent) where

@@ -9,10 +9,10 @@ use Rattle.keys.specs.declared.refusal.Answer.the-variants.{Done, Refused}
 use Rattle.keys.specs.declared.refusal.Refusal.the-variants.{OutOfLimits, WrongLength, UnknownSaid, NoKeyForFrame, NoKeyToSeal}
 use Rattle.keys.specs.Numbers.{tekInRange}
 use Rattle.keys.specs.Suites.{widthOf}
-use Rattle.keys.specs.Questions.{Question, firstNo}
+use Rattle.keys.specs.Questions.{firstNo}
 use Rattle.keys.specs.Refusal.{answerNumber}
 use Rattle.keys.specs.Frame.{serves, openingOf}
-use Rattle.keys.specs.Sealing.{KeyOut, noOut, Sealed, sealedFor, openedBy, oneMore}
+use Rattle.keys.specs.Sealing.{KeyOut, noOut, Sealed, sealedFor, openedBy, oneMore, countedAs}
 use Rattle.machines.specs.declared.tek.Tek.{Tek}
 use Rattle.modem_steps.specs.declared.state.Modem.{Modem}
 use Rattle.modem_steps.specs.State.{slotAt, starting}
@@ -59,7 +59,7 @@ openAnswer m direction address said number tek vector lent =
     ∷ record { refusal = NoKeyForFrame; met = canOpen m said number }
     ∷ [])
 
--- A frame opened adds one to those taken, an opening refused with 10 or 13 one to those refused
+-- The modem with other counts of frames
 abbrev pub withCounts : Modem → ℕ → ℕ → Modem
 withCounts m taken refused =
     record {
@@ -75,11 +75,9 @@ withCounts m taken refused =
       refused = refused;
     }
 
+-- The modem after an opening that is answered with document 01's number n
 unfoldable pub countedBy : ℕ → Modem → Modem
-countedBy n m =
-    cond (eqb n 0) (withCounts m (oneMore (m .taken)) (m .refused))
-    (cond (eqb n 10 || eqb n 13) (withCounts m (m .taken) (oneMore (m .refused)))
-    m)
+countedBy n m = countedAs n (withCounts m (oneMore (m .taken)) (m .refused)) (withCounts m (m .taken) (oneMore (m .refused))) m
 
 -- What opening gives: the answer, the modem after it, the key's octets, and the messages that go out
 pub record ModemOpened : Type 0 where

@@ -1,10 +1,9 @@
 // What the modem asks of a message's fields, and what a message that is taken does.
 ghost use mathlib.Core.Path.{_≡_};
-ghost use Prim.Native.Nat.{_≤_, _<_};
+ghost use Prim.Native.Nat.{_<_};
 ghost use mathlib.Core.Bool.{true};
 ghost use Rattle.modem_steps.specs.State.{Ready};
-ghost use Rattle.modem_steps.specs.Receive.{ofSaid, isKnown, paramsWide, widthsFit, saidKnown, authWaits, tekWaits, identifierFits, digestHolds, Takeable, received};
-ghost use Rattle.modem_steps.specs.Slots.{slotOfSaid};
+ghost use Rattle.modem_steps.specs.Receive.{ofSaid, paramsWide, widthsFit, saidKnown, authWaits, identifierFits, digestHolds, Takeable, received};
 use keys::suites::width;
 use modem_steps::machine::invalidated;
 use modem_steps::machine::rejected;

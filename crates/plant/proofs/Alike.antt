@@ -1,6 +1,6 @@
 -- Two head-ends that differ in authorization keys and counts alone answer listings and clock calls alike.
 use mathlib.Core.Path.{_≡_, refl, sym, _∙_, ap, subst}
-use mathlib.Core.Bool.{Bool, true, _&&_}
+use mathlib.Core.Bool.{Bool, true, _&&_, _||_}
 use mathlib.Core.List.{List, [], _∷_, map}
 use Prim.Native.Nat.{ℕ, zero, suc, _+_, _*_}
 use lib.Dec.{leb, ltb, eqb}
@@ -74,7 +74,7 @@ module _ (h g : HeadEnd) (same : Alike h g) where
       abbrev says : Bool → ℕ → ℕ → Bool → ℕ → Answer
       says fits used modems apart bad =
           firstNo
-          (record { refusal = OutOfLimits; met = fits && leb used bad && addressFits address && leb allowed 1 && listingFits l }
+          (record { refusal = OutOfLimits; met = fits && (leb used bad || leb (length xs) bad) && addressFits address && leb allowed 1 && listingFits l }
           ∷ record { refusal = WrongLength; met = leb used (length xs) && eqb (length m) (l .count * 64) }
           ∷ record { refusal = NoFreePlace; met = ltb modems 16 && leb (used + l .count) 64 && leb (used + l .count) (length xs) }
           ∷ record { refusal = NotNew; met = apart && leb used (firstOf (oneOf l) xs) && saidsDiffer l }
@@ -131,7 +131,7 @@ module _ (h g : HeadEnd) (same : Alike h g) where
       abbrev ticks : Bool → ℕ → ℕ → ℕ → Answer
       ticks fits used clock bad =
           firstNo
-          (record { refusal = OutOfLimits; met = fits && leb used bad }
+          (record { refusal = OutOfLimits; met = fits && (leb used bad || leb (length xs) bad) }
           ∷ record { refusal = WrongLength; met = leb used (length xs) && eqb (length m) (used * 64) }
           ∷ record { refusal = ClockOutOfOrder; met = leb clock t && leb t 1000000000000 }
           ∷ [])

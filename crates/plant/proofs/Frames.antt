@@ -26,7 +26,7 @@ use Rattle.modem.specs.Frames as ModemFrames
 use Rattle.modem.specs.Frames.{ModemOpened, machineOf}
 use Rattle.modem.proofs.FrameLaws as ModemLaws
 use Rattle.modem_steps.specs.Slots.{slotOfSaid}
-use Rattle.plant.specs.World.{World, list, clock, up, down, Frame}
+use Rattle.plant.specs.World.{World, clock, up, down, Frame}
 use Rattle.plant.specs.Run.{Did}
 use Rattle.plant.proofs.LogLaws.{Log}
 use Rattle.plant.proofs.SaidLaws.{apart-by}

@@ -30,7 +30,6 @@ pub record Inv (D half own : ℕ) (w : World) (tr : List Did) (gs : List Log) : 
 -- What a step leads to: logs that go on, and the same of the world and the trace after it
 pub record Next (D half own : ℕ) (w : World) (tr : List Did) (gs : List Log) (s : Step) : Type 0 where
   pub logs : List Log
-  pub grows : Grows gs logs
   pub are : logs ≡ logsBy half gs (acceptedIn w s)
   pub inv : Inv D half own (after w s) (tr ++ (didOf w s ∷ [])) logs
 
@@ -46,7 +45,6 @@ module _ {D half own : ℕ} {w : World} {tr : List Did} {gs : List Log} (v : Inv
   next-by head fits own-is clocks pairs put sealed later =
       record {
         logs = hs;
-        grows = grows;
         are = are;
         inv = record {
           head = head;

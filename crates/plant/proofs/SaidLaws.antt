@@ -64,7 +64,3 @@ module _ (half t : ℕ) (m : List ℕ) where
   pub saids-listed : (at : ℕ) (ss : List SaidSuite) → saidsIn (logsListed half t m at ss) ≡ map (λ (s : SaidSuite). s .said) ss
   saids-listed at [] = refl
   saids-listed at (s ∷ ss) = ap (λ (xs : List ℕ). s .said ∷ xs) (saids-listed (at + 64) ss)
-
-pub map-append : {A B : Type 0} (f : A → B) (xs ys : List A) → map f (xs ++ ys) ≡ map f xs ++ map f ys
-map-append f [] ys = refl
-map-append f (x ∷ xs) ys = ap (λ l. f x ∷ l) (map-append f xs ys)

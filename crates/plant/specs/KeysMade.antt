@@ -1,5 +1,6 @@
 -- The keys made by a list of steps (document 01, "The steps of demand 3"): worked out by the minting rules from the accepted listings and clock
--- calls with their lent material alone, from no end's state and no record but for which calls were accepted.
+-- calls with their lent material alone, from no record and no end's state but for which calls were accepted, and when: a listing's second is the
+-- clock, which is that of the last accepted clock call.
 use mathlib.Core.Path.{_≡_}
 use mathlib.Core.Bool.{Bool, true, false}
 use mathlib.Core.List.{List, [], _∷_, _++_, map}

@@ -94,10 +94,6 @@ module _ (p : Probe) (xs : List Assoc) where
   pub passed-hit : (n i : ℕ) → n ≤ firstOf p xs → i < n → hitOf p (getD xs i none) ≡ false
   passed-hit n i all small = passed-by (hitOf p) xs n i all small
 
-  -- A search that ends at the number of records has found none
-  pub none-hit : length xs ≤ firstOf p xs → (i : ℕ) → i < length xs → hitOf p (getD xs i none) ≡ false
-  none-hit all i small = passed-by (hitOf p) xs (length xs) i all small
-
   -- A search that ends before has found one
   pub first-is-hit : firstOf p xs < length xs → hitOf p (getD xs (firstOf p xs) none) ≡ true
   first-is-hit small = hit-by (hitOf p) xs small

@@ -30,10 +30,6 @@ value-decimal = by-digits (λ (n : ℕ). valueOf (decimalOf n) ≡ n) few more
 
 -- ---- they are digits, and end where no digit follows
 
-pub leading-stop : (b : ℕ) (rest : List ℕ) → isDigit b ≡ false → leading (b ∷ rest) ≡ []
-unfolding leading
-leading-stop b rest e = rw e
-
 -- `leading ds ≡ ds` says that every octet of ds is a digit
 leading-append : (ds rest : List ℕ) → leading ds ≡ ds → leading (ds ++ rest) ≡ ds ++ leading rest
 unfolding leading

@@ -40,11 +40,6 @@ octets-take zero s h = tt
 octets-take (suc n) [] h = tt
 octets-take (suc n) (x ∷ s) h = (h .0, octets-take n s (h .1))
 
--- the same by places
-pub octets-each : (s : List ℕ) → ((i : ℕ) → i < length s → getD s i 0 < 256) → Octets s
-octets-each [] h = tt
-octets-each (x ∷ s) h = (h 0 (omega arith), octets-each s (λ i q. h (suc i) (omega arith)))
-
 pub octet-below : (s : List ℕ) (i : ℕ) → Octets s → getD s i 0 < 256
 octet-below [] i o = omega arith
 octet-below (x ∷ s) zero o = o .0

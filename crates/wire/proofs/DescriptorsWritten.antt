@@ -9,7 +9,7 @@ use native.Mathlib.Omega.{arith}
 use borrow.Author.Tests.{leb-true, ltb-true, ltb-false, lt-ltb}
 use Rattle.keys.proofs.TestLaws.{both}
 use Rattle.wire.specs.declared.fields.Descriptor.{Descriptor}
-use Rattle.wire.specs.Attributes.{values, countOf, valueAt, allOf, octets}
+use Rattle.wire.specs.Attributes.{values, valueAt, allOf, octets}
 use Rattle.wire.specs.Ranges.{needs, fits, compound, good}
 use Rattle.wire.specs.Messages.{insidesTold, saidsIn, different}
 use Rattle.wire.specs.Fields.{descriptorOf, noDescriptor}
@@ -41,10 +41,6 @@ values-no-descriptor k e (d ∷ ds) = rw e (values-no-descriptor k e ds)
 pub length-insides : (ds : List Descriptor) → length (insides ds) ≡ length ds
 length-insides [] = refl
 length-insides (d ∷ ds) = ap suc (length-insides ds)
-
-pub count-descriptors : (ds : List Descriptor) → countOf 23 (descriptorsItems ds) ≡ length ds
-unfolding countOf
-count-descriptors ds = ap length (values-descriptors ds) ∙ length-insides ds
 
 pub short-descriptors : (ds : List Descriptor) → Short (descriptorsItems ds)
 unfolding descriptorsItems

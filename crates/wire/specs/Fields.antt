@@ -1,7 +1,7 @@
 -- The fields that a message's attributes carry (document 01, "Messages"). What a code does not carry is zero.
 use Prim.Native.Nat.{ℕ}
 use mathlib.Core.List.{List, [], _∷_}
-use mathlib.Core.Bool.{Bool, cond}
+use mathlib.Core.Bool.{cond}
 use lib.ListN.{length, getD, replicate}
 use Rattle.keys.specs.Octets.{padded}
 use Rattle.wire.specs.declared.fields.KeyOctets.{KeyOctets}

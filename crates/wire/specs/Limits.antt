@@ -3,7 +3,7 @@
 use Prim.Native.Nat.{ℕ, _+_, _%_}
 use mathlib.Core.List.{List, [], _∷_}
 use mathlib.Core.Bool.{Bool, true, _&&_, _||_, not, cond}
-use lib.ListN.{getD, length, take}
+use lib.ListN.{getD, take}
 use lib.Dec.{leb, ltb, eqb}
 use Rattle.keys.specs.Suites.{suiteKnown, widthKnown}
 use Rattle.keys.specs.Octets.{zeroPast}

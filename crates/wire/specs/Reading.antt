@@ -1,7 +1,7 @@
 -- What the reader hands back (document 01, "Messages").
 use Prim.Native.Nat.{ℕ}
 use mathlib.Core.List.{List}
-use mathlib.Core.Bool.{Bool, cond}
+use mathlib.Core.Bool.{cond}
 use lib.ListN.{length}
 use Rattle.keys.specs.declared.refusal.Answer.{Answer}
 use Rattle.keys.specs.declared.refusal.Answer.the-variants.{Done, Refused}

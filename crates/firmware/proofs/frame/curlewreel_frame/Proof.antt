@@ -4,8 +4,7 @@ use Rattle.firmware.proofs.FrameLaws.{limits-refused, lengths-refused, 
 use lib.ListN.{length}
 use borrow.Author.Tests.{not-true, not-false}
 use native.Mathlib.Omega.{arith}
-use mathlib.Core.Bool.{true, false}
-use mathlib.Core.Path.{_≡_, sym, _∙_, ap}
+use mathlib.Core.Path.{sym, _∙_}
 use borrow.Author.Needs.{needs}
 use Rattle.firmware.proofs.frame.curlewreel_frame.Statement.{statement}
 use Rattle.firmware.proofs.frame.curlewreel_frame.Tie as tie

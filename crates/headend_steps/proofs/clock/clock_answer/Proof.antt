@@ -7,6 +7,9 @@ use Rattle.headend_steps.proofs.clock.clock_answer.Tie as tie
 head-fits-requires : tie.Need-head-fits-requires
 head-fits-requires c κs = search needs
 
+records-fit-requires : tie.Need-records-fit-requires
+records-fit-requires c κs = search needs
+
 is-material-requires : tie.Need-is-material-requires
 is-material-requires c κs = search needs
 
@@ -28,6 +31,7 @@ clock-answer-spec =
     tie.close
     (tie.spec
     head-fits-requires
+    records-fit-requires
     is-material-requires
     ask-requires
     ask-requires-2

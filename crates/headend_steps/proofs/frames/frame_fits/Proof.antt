@@ -10,6 +10,9 @@ entry-of-requires c κs = search needs
 head-fits-requires : tie.Need-head-fits-requires
 head-fits-requires c κs = search needs
 
+records-fit-requires : tie.Need-records-fit-requires
+records-fit-requires c κs = search needs
+
 address-fits-requires : tie.Need-address-fits-requires
 address-fits-requires c κs = search needs
 
@@ -29,6 +32,7 @@ frame-fits-spec =
     (tie.spec
     entry-of-requires
     head-fits-requires
+    records-fit-requires
     address-fits-requires
     said-fits-requires
     held-suits-requires

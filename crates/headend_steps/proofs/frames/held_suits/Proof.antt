@@ -7,14 +7,8 @@ use Rattle.headend_steps.proofs.frames.held_suits.Tie as tie
 is-own-requires : tie.Need-is-own-requires
 is-own-requires c κs = search needs
 
-half-in-requires : tie.Need-half-in-requires
-half-in-requires c κs = search needs
-
-record-fits-requires : tie.Need-record-fits-requires
-record-fits-requires c κs = search needs
-
-is-listing-suite-requires : tie.Need-is-listing-suite-requires
-is-listing-suite-requires c κs = search needs
+found-suits-requires : tie.Need-found-suits-requires
+found-suits-requires c κs = search needs
 
 returns : tie.Need-returns
 unfolding heldSuits
@@ -25,7 +19,5 @@ held-suits-spec =
     tie.close
     (tie.spec
     is-own-requires
-    half-in-requires
-    record-fits-requires
-    is-listing-suite-requires
+    found-suits-requires
     returns)

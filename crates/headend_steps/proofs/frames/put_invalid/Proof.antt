@@ -1,7 +1,8 @@
 -- `headend_steps::frames::put_invalid` meets its contract.
 use mathlib.Core.List.{List, []}
 use mathlib.Core.Path.{sym, _∙_, ap, subst}
-use Prim.Native.Nat.{ℕ}
+use Prim.Native.Nat.{ℕ, _≤_, _<_}
+use native.Mathlib.Omega.{arith}
 use lib.ListN.{length}
 use borrow.Author.Needs.{needs}
 use Rattle.keys.specs.declared.numbers.AkNumber.{AkNumber}
@@ -20,7 +21,8 @@ returns : tie.Need-returns
 returns c =
     let x = c .before .before .before .before .before .before .before .args in
     let k = c .before .before .before .before .before .entry-of in
-    let none = sym (none-invalid (x .h) (k .result) _ (k .ensures) (x .said) (c .if1 .taken)) in
+    let past : k .result .entry .keys .newer ≤ x .h .clock = omega (arith, c .if1 .taken) in
+    let none = sym (none-invalid (x .h) (k .result) _ (k .ensures) (x .said) past) in
     (ap (λ (o : List ℕ). length o) none, ap (overlay (x .out .now)) none)
 
 newest-requires : tie.Need-newest-requires
@@ -50,7 +52,8 @@ returns-2 c =
     let x = c .before .before .before .before .before .before .before .before .before .before .before .before .before .before .args in
     let k = c .before .before .before .before .before .before .before .before .before .before .before .before .entry-of in
     let same = c .before .before .before .before .before .error-answer .ensures ∙ ap (λ (n : AkNumber). errorAnswer 11 0 n (x .said) 4) (c .before .before .before .before .before .before .newest .ensures) in
-    let all = one-invalid (x .h) (k .result) _ (k .ensures) (x .said) (c .before .before .before .before .before .before .before .if1 .left) _ same in
+    let on : x .h .clock < k .result .entry .keys .newer = omega (arith, c .before .before .before .before .before .before .before .if1 .left) in
+    let all = one-invalid (x .h) (k .result) _ (k .ensures) (x .said) on _ same in
     (c .before .before .put-answer .ensures .0 ∙ ap (λ (o : List ℕ). length o) all, c .before .before .put-answer .ensures .1 ∙ ap (overlay (x .out .now)) all)
 
 pub put-invalid-spec : {M : Type 1} → statement M

@@ -7,6 +7,9 @@ use Rattle.headend_steps.proofs.listing.list_answer.Tie as tie
 head-fits-requires : tie.Need-head-fits-requires
 head-fits-requires c κs = search needs
 
+records-fit-requires : tie.Need-records-fit-requires
+records-fit-requires c κs = search needs
+
 address-fits-requires : tie.Need-address-fits-requires
 address-fits-requires c κs = search needs
 
@@ -42,13 +45,14 @@ ask-requires-4 c κs = search needs
 
 returns : tie.Need-returns
 unfolding listAnswer listQuestions
-returns c = simp (c .ask4 .ensures, c .before .ask3 .ensures, c .before .before .ask2 .ensures, c .before .before .before .ask .ensures, c .before .before .before .before .saids-differ .ensures, c .before .before .before .before .before .all-apart .ensures, c .before .before .before .before .before .before .has-room2 .ensures, c .before .before .before .before .before .before .before .has-room .ensures, c .before .before .before .before .before .before .before .before .before .is-material .ensures, c .before .before .before .before .before .before .before .before .before .before .listing-fits .ensures, c .before .before .before .before .before .before .before .before .before .before .before .address-fits .ensures, c .before .before .before .before .before .before .before .before .before .before .before .before .head-fits .ensures)
+returns c = simp (c .ask4 .ensures, c .before .ask3 .ensures, c .before .before .ask2 .ensures, c .before .before .before .ask .ensures, c .before .before .before .before .saids-differ .ensures, c .before .before .before .before .before .all-apart .ensures, c .before .before .before .before .before .before .has-room2 .ensures, c .before .before .before .before .before .before .before .has-room .ensures, c .before .before .before .before .before .before .before .before .before .is-material .ensures, c .before .before .before .before .before .before .before .before .before .before .listing-fits .ensures, c .before .before .before .before .before .before .before .before .before .before .before .address-fits .ensures, c .before .before .before .before .before .before .before .before .before .before .before .before .records-fit .ensures, c .before .before .before .before .before .before .before .before .before .before .before .before .before .head-fits .ensures)
 
 pub list-answer-spec : {M : Type 1} → statement M
 list-answer-spec =
     tie.close
     (tie.spec
     head-fits-requires
+    records-fit-requires
     address-fits-requires
     listing-fits-requires
     is-material-requires

@@ -10,6 +10,9 @@ entry-of-requires c κs = search needs
 head-fits-requires : tie.Need-head-fits-requires
 head-fits-requires c κs = search needs
 
+records-fit-requires : tie.Need-records-fit-requires
+records-fit-requires c κs = search needs
+
 address-fits-requires : tie.Need-address-fits-requires
 address-fits-requires c κs = search needs
 
@@ -39,7 +42,7 @@ and-then-requires-2 c κs = search needs
 
 returns : tie.Need-returns
 unfolding receiveAnswer
-returns c = simp (c .and-then2 .ensures, c .before .and-then .ensures, c .before .before .ask3 .ensures, c .before .before .before .identifier-fits .ensures, c .before .before .before .before .ask2 .ensures, c .before .before .before .before .before .ask .ensures, c .before .before .before .before .before .before .before .record-suits .ensures, c .before .before .before .before .before .before .before .before .said-fits .ensures, c .before .before .before .before .before .before .before .before .before .address-fits .ensures, c .before .before .before .before .before .before .before .before .before .before .before .head-fits .ensures, c .before .before .before .before .before .before .before .before .before .before .before .before .entry-of .ensures)
+returns c = simp (c .and-then2 .ensures, c .before .and-then .ensures, c .before .before .ask3 .ensures, c .before .before .before .identifier-fits .ensures, c .before .before .before .before .ask2 .ensures, c .before .before .before .before .before .ask .ensures, c .before .before .before .before .before .before .before .record-suits .ensures, c .before .before .before .before .before .before .before .before .said-fits .ensures, c .before .before .before .before .before .before .before .before .before .address-fits .ensures, c .before .before .before .before .before .before .before .before .before .before .records-fit .ensures, c .before .before .before .before .before .before .before .before .before .before .before .head-fits .ensures, c .before .before .before .before .before .before .before .before .before .before .before .before .entry-of .ensures)
 
 pub receive-answer-spec : {M : Type 1} → statement M
 receive-answer-spec =
@@ -47,6 +50,7 @@ receive-answer-spec =
     (tie.spec
     entry-of-requires
     head-fits-requires
+    records-fit-requires
     address-fits-requires
     said-fits-requires
     record-suits-requires

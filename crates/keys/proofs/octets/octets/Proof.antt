@@ -2,10 +2,10 @@
 use Rattle.keys.proofs.OctetsLaws.{octets-length, copied-none, copied-more}
 use Rattle.keys.specs.Octets.{octetsOf}
 use lib.Seq.{take-all}
-use lib.ListN.{length, take, replicate, getD, set}
+use lib.ListN.{take, replicate}
 use native.Mathlib.Omega.{arith}
-use mathlib.Core.Path.{_≡_, sym, ap, _∙_}
-use mathlib.Core.List.{List, _++_, append-nil}
+use mathlib.Core.Path.{_≡_, ap, _∙_}
+use mathlib.Core.List.{_++_, append-nil}
 use Prim.Native.Nat.{ℕ, _+_, _-_, _≤_}
 use Rattle.keys.proofs.octets.octets.Statement.{statement}
 use Rattle.keys.proofs.octets.octets.Tie as tie

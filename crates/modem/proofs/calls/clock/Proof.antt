@@ -5,15 +5,12 @@ use Rattle.modem.proofs.AnswerLaws.{refused-by, done-by, limits-no, len
 use Rattle.modem.proofs.SentFits.{clocked-out}
 use Rattle.modem.specs.Calls.{clockOf, clockFits, clockQuestions}
 use Rattle.modem_steps.specs.Clock.{clocked}
-use Rattle.modem.proofs.AskedLaws.{fits-ready}
 use Rattle.modem.specs.Limits.{modemFits}
-use Rattle.keys.specs.declared.refusal.Refusal.the-variants.{OutOfLimits, WrongLength, ClockOutOfOrder, WrongAttributes, UnknownSaid, WrongIdentifier, DigestFails}
+use Rattle.keys.specs.declared.refusal.Refusal.the-variants.{OutOfLimits, WrongLength, ClockOutOfOrder}
 use borrow.Author.Tests.{not-true, not-false}
-use native.Mathlib.Omega.{arith}
 use lib.ListN.{length}
-use mathlib.Core.List.{[], _∷_}
 use mathlib.Core.Bool.{true, false}
-use mathlib.Core.Path.{_≡_, sym, _∙_, ap}
+use mathlib.Core.Path.{_≡_, sym, _∙_}
 use borrow.Author.Needs.{needs}
 use Rattle.modem.proofs.calls.clock.Statement.{statement}
 use Rattle.modem.proofs.calls.clock.Tie as tie

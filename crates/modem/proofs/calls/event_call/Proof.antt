@@ -2,24 +2,21 @@
 use Rattle.modem.proofs.AnswerLaws.{event-there, out-there}
 use Rattle.modem.specs.Limits.{modemFits}
 use mathlib.Core.Bool.{true, false}
-use mathlib.Core.Path.{_≡_, subst}
+use mathlib.Core.Path.{_≡_}
 use Rattle.modem.proofs.AnswerLaws.{refused-by, done-by, limits-no, length-no, first-met}
 use Rattle.modem.proofs.SentFits.{plain-out}
 use Rattle.modem.proofs.OutLaws.{out-wider}
 use Rattle.modem.proofs.AskedLaws.{fits-ready}
 use Rattle.modem_steps.proofs.ReadyLaws.{started-ready}
 use Rattle.keys.specs.declared.refusal.Refusal.the-variants.{OutOfLimits, WrongLength}
-use Rattle.keys.specs.Questions.{firstNo}
-use Rattle.modem.specs.Calls.{firstQuestions, eventOf}
-use Rattle.modem.specs.Messages.{OutFits}
-use Rattle.modem_steps.specs.declared.state.Work.{Work}
+use Rattle.modem.specs.Calls.{eventOf}
 use Rattle.modem_steps.specs.Machine.{plainEvent}
 use Rattle.modem_steps.specs.State.{starting}
 use borrow.Author.Tests.{not-true, not-false}
 use native.Mathlib.Omega.{arith}
 use lib.ListN.{length}
 use mathlib.Core.List.{[]}
-use mathlib.Core.Path.{sym, _∙_, ap}
+use mathlib.Core.Path.{sym, _∙_}
 use borrow.Author.Needs.{needs}
 use Rattle.modem.proofs.calls.event_call.Statement.{statement}
 use Rattle.modem.proofs.calls.event_call.Tie as tie

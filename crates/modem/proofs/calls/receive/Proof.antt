@@ -2,10 +2,8 @@
 use Rattle.modem.proofs.AnswerLaws.{refused-by, done-by, handed-on, limits-no, length-no, first-met, message-no, widths-no, said-no, identifier-no, digest-no, all-met, out-there, reading-done, reading-no, reading-fields}
 use Rattle.modem.proofs.SentFits.{message-out}
 use Rattle.modem.proofs.AskedLaws.{fits-ready, takeable}
-use Rattle.modem_steps.specs.declared.state.Work.{Work}
 use Rattle.keys.specs.Refusal.{isDone}
 use Rattle.modem.specs.Calls.{receiveOf}
-use Rattle.modem.specs.Messages.{OutFits}
 use Rattle.modem.specs.Limits.{modemFits}
 use Rattle.modem_steps.specs.Receive.{widthsFit, saidKnown, identifierFits, digestHolds, receiveQuestions, Takeable, received, fieldsIn}
 use Rattle.wire.specs.Messages.{messageAnswer}
@@ -15,7 +13,7 @@ use Rattle.keys.specs.declared.refusal.Refusal.the-variants.{OutOfLimits, Wrong
 use Rattle.keys.specs.declared.refusal.Answer.the-variants.{Done}
 use borrow.Author.Tests.{not-true, not-false}
 use lib.ListN.{length}
-use mathlib.Core.Bool.{Bool, true, false}
+use mathlib.Core.Bool.{true, false}
 use mathlib.Core.Path.{_≡_, sym, _∙_, ap, subst}
 use borrow.Author.Needs.{needs}
 use Rattle.modem.proofs.calls.receive.Statement.{statement}

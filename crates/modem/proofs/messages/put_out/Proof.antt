@@ -2,15 +2,12 @@
 use lib.Seq.{length-sets}
 use Rattle.modem.proofs.OutLaws.{out-short}
 use Rattle.modem.proofs.PutLaws.{put-more, length-more, put-all}
-use Rattle.machines.specs.Tek.{nothing}
-use Rattle.modem.specs.Messages.{OutFits}
-use Prim.Native.Nat.{ℕ, _+_, _*_, _-_, _≤_, _<_}
-use mathlib.Core.List.{List}
-use mathlib.Core.Path.{_≡_, refl, sym, _∙_, ap}
+use Prim.Native.Nat.{ℕ, _*_, _-_, _≤_, _<_}
+use mathlib.Core.Path.{_≡_, refl, _∙_, ap}
 use native.Mathlib.Omega.{arith}
-use lib.ListN.{length, take, getD}
+use lib.ListN.{length, take}
 use lib.Seq.{sets}
-use Rattle.modem.specs.Messages.{requestsOctets, requestOctets, outOctets}
+use Rattle.modem.specs.Messages.{requestsOctets, outOctets}
 use Rattle.modem.proofs.messages.put_out.Statement.{statement}
 use Rattle.modem.proofs.messages.put_out.Tie as tie
 

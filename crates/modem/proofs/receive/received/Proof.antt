@@ -5,7 +5,7 @@ use Prim.Native.Nat.{_<_}
 use Rattle.modem.proofs.ReceiveLaws.{received-5, received-6, received-8, received-9, received-10, received-11}
 use Rattle.modem_steps.proofs.ReadyLaws.{started-ready}
 use native.Mathlib.Omega.{arith}
-use mathlib.Core.Path.{_≡_, _∙_, ap}
+use mathlib.Core.Path.{_≡_, _∙_}
 use borrow.Author.Needs.{needs}
 use Rattle.modem.proofs.receive.received.Statement.{statement}
 use Rattle.modem.proofs.receive.received.Tie as tie

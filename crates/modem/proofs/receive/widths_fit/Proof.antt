@@ -2,9 +2,9 @@
 use Rattle.modem.proofs.ReceiveLaws.{wide-there}
 use Rattle.modem.proofs.ReceiveLaws.{widths-other, widths-unknown, widths-known}
 use Rattle.modem_steps.specs.Slots.{slotOfSaid}
-use Prim.Native.Nat.{_<_, _≤_}
+use Prim.Native.Nat.{_<_}
 use native.Mathlib.Omega.{arith}
-use mathlib.Core.Path.{_∙_, ap}
+use mathlib.Core.Path.{_∙_}
 use borrow.Author.Needs.{needs}
 use Rattle.modem.proofs.receive.widths_fit.Statement.{statement}
 use Rattle.modem.proofs.receive.widths_fit.Tie as tie

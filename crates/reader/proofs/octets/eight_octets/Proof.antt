@@ -1,5 +1,10 @@
 -- `reader::octets::eight_octets` meets its contract.
-use Rattle.reader.proofs.KeyLaws.{padded-8}
+use Rattle.reader.proofs.KeyLaws.{padded-places, places-past}
+use mathlib.Core.Path.{sym, _∙_, ap}
+use mathlib.Core.List.{List, _∷_}
+use Prim.Native.Nat.{ℕ}
+use native.Mathlib.Omega.{arith}
+use lib.ListN.{getD}
 use denote.Ref.{now}
 use borrow.Author.Needs.{needs}
 use Rattle.reader.proofs.octets.eight_octets.Statement.{statement}
@@ -30,7 +35,9 @@ shared-slice-read-t17 : tie.Need-shared-slice-read-t17
 shared-slice-read-t17 c = search needs
 
 returns : tie.Need-returns
-returns c = rw (padded-8 (now (c .before .before .before .before .before .before .before .before .args .v)) (c .before .before .before .before .before .before .before .before .pre))
+returns c =
+    let v = now (c .before .before .before .before .before .before .before .before .args .v) in
+    sym (padded-places v ∙ ap (λ (l : List ℕ). getD v 0 0 ∷ getD v 1 0 ∷ getD v 2 0 ∷ getD v 3 0 ∷ getD v 4 0 ∷ getD v 5 0 ∷ getD v 6 0 ∷ getD v 7 0 ∷ l) (places-past 8 8 v (omega (arith, c .before .before .before .before .before .before .before .before .pre))))
 
 pub eight-octets-spec : {M : Type 1} → statement M
 eight-octets-spec =

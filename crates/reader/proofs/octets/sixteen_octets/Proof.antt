@@ -1,5 +1,6 @@
 -- `reader::octets::sixteen_octets` meets its contract.
-use Rattle.reader.proofs.KeyLaws.{padded-16}
+use Rattle.reader.proofs.KeyLaws.{padded-places}
+use mathlib.Core.Path.{sym}
 use denote.Ref.{now}
 use borrow.Author.Needs.{needs}
 use Rattle.reader.proofs.octets.sixteen_octets.Statement.{statement}
@@ -54,7 +55,7 @@ shared-slice-read-t33 : tie.Need-shared-slice-read-t33
 shared-slice-read-t33 c = search needs
 
 returns : tie.Need-returns
-returns c = rw (padded-16 (now (c .before .before .before .before .before .before .before .before .before .before .before .before .before .before .before .before .args .v)) (c .before .before .before .before .before .before .before .before .before .before .before .before .before .before .before .before .pre))
+returns c = sym (padded-places (now (c .before .before .before .before .before .before .before .before .before .before .before .before .before .before .before .before .args .v)))
 
 pub sixteen-octets-spec : {M : Type 1} → statement M
 sixteen-octets-spec =
