@@ -1,8 +1,7 @@
 /* Curlewreel, the key engine of Baseline Privacy Plus, for C. Link libfirmware.a (made by `rt staticlib firmware`).
- * Every function is proved to do what its comment says, for all arguments; nothing checks this header against the library, so the
- * programs under examples/ call each function, and the gate compares what they
- * print. A slice is passed as a pointer and a length; a pointer is never null
- * unless its length is 0, and the lent slices of one call do not overlap. */
+ * Every function is proved to do what its comment says, for all arguments. The header itself is not proved: outside/compare/layout.c looks for
+ * each field where it stands here, and the programs under examples/ and outside/ call each function; the gate runs them. A slice is passed as
+ * a pointer and a length; a pointer is never null unless its length is 0, and the lent slices of one call do not overlap. */
 #ifndef CURLEWREEL_H
 #define CURLEWREEL_H
 
@@ -217,5 +216,97 @@ typedef struct {
 curlewreel_modem_opening curlewreel_modem_open(curlewreel_modem modem, uint8_t direction, uint64_t address, uint16_t said, uint8_t number,
                                                uint8_t *tek, size_t tek_len, uint8_t *vector, size_t vector_len, uint8_t *out,
                                                size_t out_len);
+
+/* The head-end. Its state passes by value in and out like the modem's; the records of its associations are a slice of the caller's, of up to
+ * 64, which `list` and `clock` change and the other calls read. The state says how many are in use, from the front; what stands behind them
+ * is neither asked nor changed but by a listing. Every call asks the whole state and each record in use (1), and that the slice has them (2). A
+ * refusal leaves state and records as they were, but for the count of frames refused with 10 or 13. */
+
+typedef struct {
+    uint16_t said, suite;         /* suite 256 (8 octets of TEK and of vector) or 768 (16) */
+    curlewreel_key older, newer;
+} curlewreel_record;
+
+/* The SAIDs of a modem with their suites, in listing order: the first `count` of four places. */
+typedef struct {
+    size_t count;
+    uint16_t saids[4], suites[4];
+} curlewreel_listing;
+
+typedef struct {
+    uint8_t next;           /* the number that the modem's next authorization key gets */
+    uint64_t older, newer;  /* the deadlines of the last two made, 0 for none */
+} curlewreel_auth_keys;
+
+typedef struct {
+    uint64_t address;
+    uint8_t allowed; /* 1, or 0 for a barred modem */
+    curlewreel_listing listing;
+    curlewreel_auth_keys keys;
+} curlewreel_entry;
+
+typedef struct {
+    curlewreel_settings settings;
+    uint64_t clock;
+    size_t modems; /* how many of the entries are in use */
+    curlewreel_entry entries[16];
+    size_t used;             /* how many of the records are in use */
+    uint64_t taken, refused; /* frames */
+} curlewreel_headend;
+
+/* What a call answers: the number, how many octets of an answer it wrote, and the head-end after it. */
+typedef struct {
+    uint8_t number;
+    size_t count;
+    curlewreel_headend headend;
+} curlewreel_headend_call;
+
+/* A fresh head-end at clock 0. Refuses with 1 settings out of their limits, and then hands back a head-end that is all zero. */
+curlewreel_headend_call curlewreel_headend_new(curlewreel_settings settings);
+
+/* Lists a modem with 1 to 4 SAIDs. `material` has 64 octets for each: generations 0 and 1 are minted from them into the records behind those
+ * in use. Refuses, and then changes nothing: 1 the state, a record or a field; 2 fewer records than are in use, or another length of
+ * `material`; 4 no free place among 16 modems, 64 records or the records lent; 5 an address or a SAID that is listed already, or a SAID twice. */
+curlewreel_headend_call curlewreel_headend_list(curlewreel_headend headend, curlewreel_record *records, size_t records_len, uint64_t address,
+                                                uint8_t allowed, curlewreel_listing listing, const uint8_t *material,
+                                                size_t material_len);
+
+/* The clock goes to `second`: keys that are over go, and new ones are minted from 64 octets of `material` for each record in use.
+ * Refuses, and then changes nothing: 1 and 2 as above; 3 a second before the last or above 10^12. */
+curlewreel_headend_call curlewreel_headend_clock(curlewreel_headend headend, curlewreel_record *records, size_t records_len, uint64_t second,
+                                                 const uint8_t *material, size_t material_len);
+
+/* A message comes from the modem of that address; `digest` is 1 where its digest holds and 0 where it does not, and `auth_key` has the
+ * AUTH-Key's octets for an Authorization Reply. The answer is written at the front of `out`; its other octets stay as they were.
+ * Refuses, and then writes and changes nothing: 1 the state, a record, the address or another `digest`; 2 fewer records than are in use, `out`
+ * of fewer than 342 octets, or an AUTH-Key that has not 1 to 256; then 6 to 9 as curlewreel_read does, and 11 an Authentication
+ * Information whose Identifier is not 0. */
+curlewreel_headend_call curlewreel_headend_receive(curlewreel_headend headend, const curlewreel_record *records, size_t records_len,
+                                                   uint64_t address, const uint8_t *message, size_t message_len, uint8_t digest,
+                                                   const uint8_t *auth_key, size_t auth_key_len, uint8_t *out, size_t out_len);
+
+/* The older key of a SAID of that modem, to seal a frame with, at the front of `tek` and `vector`; their other octets stay as they were.
+ * Refuses, and then writes nothing: 1 the state, a record, the address or the SAID; 2 fewer records than are in use, or a slice of fewer
+ * than 16 octets; 10 a SAID that is not the modem's. */
+curlewreel_sealed curlewreel_headend_seal(curlewreel_headend headend, const curlewreel_record *records, size_t records_len,
+                                          uint64_t address, uint16_t said, uint8_t *tek, size_t tek_len, uint8_t *vector,
+                                          size_t vector_len);
+
+/* What opening answers: the number, how many octets of TEK and of vector were written, how many of a TEK Invalid, and the head-end after it. */
+typedef struct {
+    uint8_t number;
+    size_t width;
+    size_t count;
+    curlewreel_headend headend;
+} curlewreel_headend_opening;
+
+/* The held key with the frame's number, at the front of `tek` and `vector`; the head-end's `taken` is one more.
+ * Refuses, and then writes no key: 1 the state, a record or a field (a frame comes up: direction 0); 2 fewer records than are in use, or slices
+ * of fewer than 16, 16 and 40 octets; 10 a SAID that is not the modem's; 13 no such key. On 10 and 13 `refused` is one more; on 13 a TEK
+ * Invalid for the modem is written to `invalid`, where an authorization key of it is active. */
+curlewreel_headend_opening curlewreel_headend_open(curlewreel_headend headend, const curlewreel_record *records, size_t records_len,
+                                                   uint8_t direction, uint64_t address, uint16_t said, uint8_t number, uint8_t *tek,
+                                                   size_t tek_len, uint8_t *vector, size_t vector_len, uint8_t *invalid,
+                                                   size_t invalid_len);
 
 #endif

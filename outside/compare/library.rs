@@ -1,41 +1,10 @@
-//! The static library's three functions (include/curlewreel.h), and its layout of a message's fields.
+//! The library's reader, writer and frame decision on slices, and its layout of a message's fields.
+// each program uses a part of them
+#![allow(dead_code)]
 
+use crate::engine::{curlewreel_frame, curlewreel_read, curlewreel_write, Written};
 use curlewreel_outside::frame::Pair;
 use curlewreel_outside::message::{Descriptor, Fields, Params, Reading};
-
-#[repr(C)]
-pub struct Written {
-    pub number: u8,
-    pub count: usize,
-}
-
-#[link(name = "firmware", kind = "static")]
-extern "C" {
-    fn curlewreel_frame(
-        clock: u64,
-        older_number: u8,
-        older_deadline: u64,
-        newer_number: u8,
-        newer_deadline: u64,
-        width: usize,
-        keys: *const u8,
-        keys_len: usize,
-        number: u8,
-        tek: *mut u8,
-        tek_len: usize,
-        vector: *mut u8,
-        vector_len: usize,
-    ) -> u8;
-    fn curlewreel_read(end: u8, message: *const u8, message_len: usize, fields: *mut u8, fields_len: usize) -> u8;
-    fn curlewreel_write(
-        fields: *const u8,
-        fields_len: usize,
-        auth_key: *const u8,
-        auth_key_len: usize,
-        out: *mut u8,
-        out_len: usize,
-    ) -> Written;
-}
 
 pub const WRITTEN: usize = 109;
 pub const FIELDS: usize = 117;

@@ -1,23 +1,16 @@
 //! Comparison 2: the reader, the writer and the frame decision of the static library against the outside implementation, on random
 //! and damaged octets. Every octet of every lent slice is compared. `compare COUNT SEED`.
 
+mod engine;
 mod library;
 mod make;
 mod random;
+mod tally;
 
 use curlewreel_outside::frame::{self, Pair};
 use curlewreel_outside::message::{self, End, Fields, Params};
 use random::Random;
-
-/// How often each number was answered.
-type Tally = [u64; 15];
-
-fn check(same: bool, what: impl FnOnce() -> String) {
-    if !same {
-        eprintln!("outside: differs: {}", what());
-        std::process::exit(1);
-    }
-}
+use tally::{check, Tally};
 
 /// What a lent slice holds after `written` at its front.
 fn over(lent: &[u8], written: &[u8]) -> Vec<u8> {
@@ -51,7 +44,7 @@ fn read_one(r: &mut Random, octets: &[u8], tally: &mut Tally) -> Option<(message
     check(number == wanted && fields == over(&lent, &written), || {
         format!("read, end {end}, {octets:02x?}: library {number}, outside {wanted}\nlibrary {fields:02x?}\noutside {written:02x?}")
     });
-    tally[wanted as usize] += 1;
+    tally.add(wanted);
     expected.ok().map(|reading| {
         let key = octets[reading.auth_key.0..reading.auth_key.0 + reading.auth_key.1].to_vec();
         (reading, key)
@@ -112,7 +105,7 @@ fn write_one(r: &mut Random, fields: &[u8], key: &[u8], tally: &mut Tally) {
         format!("write, room {room}, key of {}, fields {fields:02x?}: library {} {}, outside {wanted}\nlibrary {out:02x?}\noutside {written:02x?}",
             key.len(), answer.number, answer.count)
     });
-    tally[wanted as usize] += 1;
+    tally.add(wanted);
 }
 
 fn write_some(r: &mut Random, tally: &mut Tally) {
@@ -130,7 +123,8 @@ fn write_some(r: &mut Random, tally: &mut Tally) {
     write_one(r, &fields, &key, tally);
 }
 
-fn frame_one(r: &mut Random, tally: &mut Tally) {
+/// The numbers of a frame decision: mostly a pair within the limits, each number now and then at or past its own.
+fn some_pair(r: &mut Random) -> Pair {
     let clock = if r.one_in(20) { r.pick(&[0, 1_000_000_000_000, 1_000_000_000_001, u64::MAX]) } else { r.below(1_000_000_000_000) };
     let deadline = |r: &mut Random| {
         if r.one_in(20) {
@@ -145,9 +139,13 @@ fn frame_one(r: &mut Random, tally: &mut Tally) {
     let newer_number = if r.one_in(20) { r.below(17) as u8 } else { (older_number + 1) % 16 };
     let width = if r.one_in(30) { r.pick(&[0, 7, 9, 17, usize::MAX]) } else { r.pick(&[8, 16]) };
     let number = if r.one_in(10) { r.below(17) as u8 } else { r.pick(&[older_number, newer_number]) };
-    let p = Pair { clock, older_number, older_deadline, newer_number, newer_deadline, width, number };
+    Pair { clock, older_number, older_deadline, newer_number, newer_deadline, width, number }
+}
+
+fn frame_one(r: &mut Random, tally: &mut Tally) {
+    let p = some_pair(r);
     let mut keys = r.octets(64);
-    if width == 8 && !r.one_in(20) {
+    if p.width == 8 && !r.one_in(20) {
         for part in keys.chunks_mut(16) {
             part[8..].fill(0);
         }
@@ -169,24 +167,15 @@ fn frame_one(r: &mut Random, tally: &mut Tally) {
     check(answer == wanted && tek == over(&lent_tek, &written.0) && vector == over(&lent_vector, &written.1), || {
         format!("frame {p:?}, keys {keys:02x?}, slices of {} and {}: library {answer}, outside {wanted}", lent_tek.len(), lent_vector.len())
     });
-    tally[wanted as usize] += 1;
-}
-
-/// Prints how often each number was answered; a number of `due` that never was is a failure.
-fn told(what: &str, tally: &Tally, due: &[usize]) {
-    let counts: Vec<String> = (0..15).filter(|n| tally[*n] > 0).map(|n| format!("{n}: {}", tally[n])).collect();
-    println!("outside: {what}, answers {}", counts.join(", "));
-    if let Some(n) = due.iter().find(|n| tally[**n] == 0) {
-        eprintln!("outside: {what} never answered {n}");
-        std::process::exit(1);
-    }
+    tally.add(wanted);
 }
 
 fn main() {
     let mut args = std::env::args().skip(1).map(|a| a.parse::<u64>().expect("a number"));
     let (count, seed) = (args.next().unwrap_or(200_000), args.next().unwrap_or(1));
     let mut r = Random(seed);
-    let (mut reads, mut codes, mut writes, mut frames) = ([0; 15], [0u64; 13], [0; 15], [0; 15]);
+    let (mut reads, mut writes, mut frames) = (Tally::default(), Tally::default(), Tally::default());
+    let mut codes = [0u64; 13];
     for _ in 0..count {
         let octets = make::message(&mut r);
         if let Some((reading, key)) = read_one(&mut r, &octets, &mut reads) {
@@ -196,11 +185,11 @@ fn main() {
         write_some(&mut r, &mut writes);
         frame_one(&mut r, &mut frames);
     }
-    told("reading", &reads, &[0, 1, 2, 6, 7, 8, 9]);
-    told("writing", &writes, &[0, 1, 2]);
-    told("frame decision", &frames, &[0, 1, 2, 13]);
-    for code in 4..=12 {
-        check(codes[code] > 0, || format!("no message of code {code} was read"));
+    reads.told("reading", &[0, 1, 2, 6, 7, 8, 9]);
+    writes.told("writing", &[0, 1, 2]);
+    frames.told("frame decision", &[0, 1, 2, 13]);
+    for (code, times) in codes.iter().enumerate().skip(4) {
+        check(*times > 0, || format!("no message of code {code} was read"));
     }
     println!("outside: {count} of each compared, seed {seed}, no difference; read by code 4 to 12: {:?}", &codes[4..]);
 }

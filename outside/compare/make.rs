@@ -1,4 +1,6 @@
 //! Random messages: sound ones, ones with values at and past their limits, and damaged ones.
+// each program uses a part of it
+#![allow(dead_code)]
 
 use crate::random::Random;
 
@@ -204,4 +206,24 @@ pub fn damage(r: &mut Random, out: &mut Vec<u8>) {
         let at = r.below(out.len() as u64) as usize;
         out[at] = r.pick(&[0, 1, 8, 16, 255, 4, 13, 23]);
     }
+}
+
+/// A message's own attributes in another order, or one of them left out, doubled, put in or cut; Length as the rest has it.
+pub fn rearrange(r: &mut Random, out: &mut Vec<u8>) {
+    let (mut parts, mut rest) = (Vec::new(), &out[4..]);
+    while rest.len() >= 3 {
+        let n = (3 + usize::from(rest[1]) * 256 + usize::from(rest[2])).min(rest.len());
+        parts.push(rest[..n].to_vec());
+        rest = &rest[n..];
+    }
+    if parts.len() > 1 && r.one_in(2) {
+        let (a, b) = (r.below(parts.len() as u64) as usize, r.below(parts.len() as u64) as usize);
+        parts.swap(a, b);
+    } else {
+        (0..4).for_each(|_| disturb(r, &mut parts));
+    }
+    let body = parts.concat();
+    out.truncate(2);
+    out.extend((body.len() as u16).to_be_bytes());
+    out.extend(body);
 }

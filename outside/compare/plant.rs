@@ -1,8 +1,12 @@
 //! A plant: random lists of calls, worked out with the outside implementation. Copies of messages and frames come late, twice, in another
-//! order and damaged; listings and clocks are refused now and then.
+//! order and damaged; listings and clocks are refused now and then; some lines are no calls.
+// each program uses a part of it
+#![allow(dead_code)]
 
+use crate::forge;
 use crate::make;
 use crate::random::Random;
+use crate::text;
 use curlewreel_outside::replay::Ends;
 
 /// A message put out, or a frame sealed: its fields direction, address, SAID, number.
@@ -11,13 +15,15 @@ struct Frame(u64, u64, u64, u64);
 
 pub struct Plant {
     r: Random,
-    ends: Ends,
+    pub ends: Ends,
     life: u64,
     aklife: u64,
     address: u64,
     clock: u64,
     /// How many calls of a hundred are listings.
     listings: u64,
+    /// Does the first clock call go near the clock's last second?
+    far: bool,
     saids: Vec<u64>,
     up: Vec<Vec<u8>>,
     down: Vec<Vec<u8>>,
@@ -50,15 +56,19 @@ impl Plant {
         let mut r = Random(seed);
         let (input, life, aklife, address) = set_up(&mut r);
         let ends = Ends::start(&input.as_bytes().split(|c| *c == b'\n').collect::<Vec<_>>()).expect("a start");
-        let listings = if r.one_in(8) { 30 } else { 2 };
+        // by the seed itself, so that a few lists have each kind
+        let (listings, far) = (if seed % 8 == 3 { 30 } else { 2 }, seed % 12 == 7);
         let (saids, up, down, frames) = (Vec::new(), Vec::new(), Vec::new(), Vec::new());
-        (Plant { r, ends, life, aklife, address, clock: 0, listings, saids, up, down, frames, first: true }, input)
+        (Plant { r, ends, life, aklife, address, clock: 0, listings, far, saids, up, down, frames, first: true }, input)
     }
 
     /// The next call, and what the outside implementation answers.
     pub fn next(&mut self) -> (String, String) {
         let lists = std::mem::replace(&mut self.first, false) && !self.r.one_in(20);
-        let call = if lists { self.list() } else { self.call() };
+        let mut call = if lists { self.list() } else { self.call() };
+        if !lists && self.r.one_in(50) {
+            call = if self.r.one_in(3) { text::spoilt(&mut self.r, &call) } else { text::odd_line(&mut self.r) };
+        }
         let answer = self.ends.call(call.as_bytes()).unwrap_or("?".to_string());
         self.keep(&call, &answer);
         (call, answer)
@@ -100,9 +110,11 @@ impl Plant {
 
     fn list(&mut self) -> String {
         let n = if self.r.one_in(12) { 5 } else { 1 + self.r.below(4) };
+        // a list with many listings has SAIDs enough to fill all places
+        let range = if self.listings > 2 { 8_000 } else { 200 };
         let mut text = String::new();
         for _ in 0..n {
-            let said = if self.r.one_in(15) { self.r.pick(&[1, 2, 16_384]) } else { self.r.below(200) };
+            let said = if self.r.one_in(15) { self.r.pick(&[1, 2, 16_384]) } else { self.r.below(range) };
             let suite = if self.r.one_in(15) { 512 } else { self.r.pick(&[256, 768]) };
             text += &format!(",{said},{suite}");
         }
@@ -114,10 +126,11 @@ impl Plant {
 
     fn clock(&mut self) -> String {
         let half = self.life / 2;
+        let last = 1_000_000_000_000;
         let ahead = match self.r.below(24) {
             0 => self.life,
             1 => half * self.r.below(20),
-            2 if self.r.one_in(4) => self.aklife,
+            2 if self.r.one_in(2) => self.aklife,
             3..=8 => self.r.below(half),
             9 | 10 => half - self.clock % half,
             11 | 12 => half - 1 - self.clock % half,
@@ -125,7 +138,9 @@ impl Plant {
         };
         let t = match self.r.below(60) {
             0 => self.clock.saturating_sub(1 + self.r.below(50)),
-            1 if self.r.one_in(10) => self.r.pick(&[1_000_000_000_001, u64::MAX]),
+            1 if self.r.one_in(10) => self.r.pick(&[last + 1, u64::MAX]),
+            2 if self.clock + half > last => last,
+            _ if self.far && self.clock == 0 => last - self.r.below(20_000),
             _ => self.clock + ahead,
         };
         let n = if self.r.one_in(40) { self.r.below(200) as usize } else { 64 * self.saids.len() };
@@ -138,14 +153,27 @@ impl Plant {
         let Some(at) = self.place(n).filter(|_| !self.r.one_in(20)) else {
             return make::message(&mut self.r);
         };
+        if !up && self.r.one_in(10) {
+            return self.forged();
+        }
         let mut octets = if up { self.up[at].clone() } else { self.down[at].clone() };
-        if self.r.one_in(10) {
-            make::damage(&mut self.r, &mut octets);
+        match self.r.below(30) {
+            0..=2 => make::damage(&mut self.r, &mut octets),
+            3 => make::rearrange(&mut self.r, &mut octets),
+            4 => octets.extend(octets.clone()),
+            _ => {}
         }
         if self.r.one_in(25) && octets.len() > 1 {
             octets[1] = octets[1].wrapping_add(self.r.pick(&[1, 255]));
         }
         octets
+    }
+
+    /// An answer to one of the modem's messages that the head-end did not give.
+    fn forged(&mut self) -> Vec<u8> {
+        let at = self.place(self.up.len());
+        let request = at.map_or(vec![], |at| self.up[at].clone());
+        forge::answer(&mut self.r, &request, &self.saids)
     }
 
     fn message(&mut self, up: bool) -> String {
@@ -210,9 +238,12 @@ impl Plant {
 }
 
 fn set_up(r: &mut Random) -> (String, u64, u64, u64) {
+    let longest = r.one_in(16);
     let life = if r.one_in(4) { 1_800 + 2 * r.below(3_000) } else { 1_800 };
+    let life = if longest { 604_800 } else { life };
     let (grace, aklife) = (300 + r.below(life / 2 - 300), 86_400 + r.below(5_000));
-    let akgrace = 300 + r.below(aklife / 2 - 300);
+    let aklife = if longest { 6_048_000 } else { aklife };
+    let akgrace = 300 + r.below(aklife / 2 - 299);
     let mut wait = || {
         let most = r.pick(&[20, 600]);
         (1 + r.below(most)).to_string()
@@ -225,4 +256,38 @@ fn set_up(r: &mut Random) -> (String, u64, u64, u64) {
         r.below(16_384)
     );
     (text, life, aklife, address)
+}
+
+/// How many calls a list has: one list in twenty has twelve times as many, so that Identifiers and key numbers come round.
+pub fn calls_of(seed: u64, calls: u64) -> u64 {
+    if seed.is_multiple_of(20) {
+        12 * calls
+    } else {
+        calls
+    }
+}
+
+/// A whole list with its answers. One in eight has a set-up that is wrong, and then the answers are what is printed instead; some have no
+/// line end at the end.
+pub fn list(seed: u64, calls: u64) -> (String, String) {
+    let (mut plant, mut input) = Plant::new(seed);
+    let mut output = String::new();
+    let mut r = Random(!seed);
+    let wrong = seed % 8 == 5;
+    if wrong {
+        input = text::wrong_start(&mut r, seed / 8, &input);
+    }
+    for _ in 0..calls {
+        let (call, answer) = plant.next();
+        input += &(call + "\n");
+        output += &(answer + "\n");
+    }
+    output += &plant.frames();
+    if r.one_in(4) {
+        input.pop();
+    }
+    if wrong {
+        output = curlewreel_outside::replay::replay(input.as_bytes());
+    }
+    (input, output)
 }

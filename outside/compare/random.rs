@@ -1,4 +1,6 @@
 //! Numbers from a seed (splitmix64), so that a run can be repeated.
+// each program uses a part of it
+#![allow(dead_code)]
 
 pub struct Random(pub u64);
 

@@ -38,7 +38,7 @@ impl Held {
 }
 
 /// Question 1 of the pair: numbers, deadlines, zeros past the width.
-fn pair_fits(clock: u64, older: &Held, newer: &Held, width: usize) -> bool {
+pub fn pair_fits(clock: u64, older: &Held, newer: &Held, width: usize) -> bool {
     let zeros = |o: &[u8; 16]| o[width..].iter().all(|x| *x == 0);
     older.number <= 15
         && newer.number <= 15

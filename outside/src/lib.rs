@@ -3,6 +3,7 @@ pub mod association;
 pub mod attributes;
 pub mod frame;
 pub mod headend;
+pub mod limits;
 pub mod machines;
 pub mod message;
 pub mod modem;

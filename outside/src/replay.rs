@@ -74,8 +74,8 @@ fn opened(answer: Opened) -> String {
 
 /// Both ends.
 pub struct Ends {
-    head: HeadEnd,
-    modem: Modem,
+    pub head: HeadEnd,
+    pub modem: Modem,
 }
 
 impl Ends {

@@ -1,6 +1,7 @@
 //! A random walk over both ends: no panic, and the state stays within the limits of question 1.
 
 use crate::headend::HeadEnd;
+use crate::limits::{headend_fits, modem_fits};
 use crate::modem::Modem;
 use crate::settings::Settings;
 
@@ -12,33 +13,6 @@ impl Dice {
         self.0 = x.wrapping_add(1_442_695_040_888_963_407);
         (self.0 >> 33) % n
     }
-}
-
-fn modem_fits(m: &Modem) -> bool {
-    let slots = m.slots.iter().all(|s| {
-        let on = matches!(s.state, b'B' | b'D' | b'E');
-        let held = matches!(s.state, b'D' | b'E' | b'F');
-        let pair =
-            s.keys.is_none_or(|(o, n)| n.number == (o.number + 1) % 16 && o.deadline < n.deadline && n.deadline <= m.clock + 604_800);
-        s.timer.is_some() == on && s.keys.is_some() == held && pair
-    });
-    let on = matches!(m.state, b'B'..=b'E');
-    m.timer.is_some() == on && slots && m.slots.len() <= 4
-}
-
-fn head_end_fits(h: &HeadEnd) -> bool {
-    let half = h.settings.half();
-    let records = h.records.iter().all(|r| {
-        r.older.deadline > h.clock
-            && r.older.deadline <= h.clock + half
-            && r.newer.deadline == r.older.deadline + half
-            && r.newer.number == (r.older.number + 1) % 16
-    });
-    let a = h.settings.aklife;
-    records
-        && h.entries
-            .iter()
-            .all(|e| e.older_ak <= h.clock + a && e.newer_ak <= e.older_ak.max(h.clock) + a && (e.newer_ak > e.older_ak || e.newer_ak == 0))
 }
 
 /// Cuts what a modem sent into its messages.
@@ -138,7 +112,7 @@ fn walk() {
         let mut walk = Walk::new(settings);
         for _ in 0..3_000 {
             seen[usize::from(walk.step(&mut dice))] += 1;
-            assert!(modem_fits(&walk.m) && head_end_fits(&walk.h));
+            assert!(modem_fits(&walk.m) && headend_fits(&walk.h));
         }
     }
     for n in [0, 6, 7, 8, 9, 10, 11, 12, 13, 14] {

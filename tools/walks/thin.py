@@ -2,6 +2,7 @@
 types, the locals, the calls with their operands, what is dead when) is read. Run scripts at the repository's top, after
 `rt dev CRATE` has accepted the source and the contract (a `?` for the proof will do).
     thin(CRATE, FN, results, right=(ANSWER, OCTETS ..), uses)   a straight line; the last call is handed the `&mut [u8]`s
+    thin(CRATE, FN, results, right=(ANSWER, ..), then=SPEC, uses)  the same, and a call on values after it: SPEC with {got} for ANSWER
     thin(CRATE, FN, results, change={..}, uses)                  search, decide, branch, change, last call on values
 results: for each call but the last (and but the changing one), in order, a name and the definition that it meets, a format with
 {name} for an earlier result. Shared slices are `(NAME .now)` in definitions; the `&mut [S]` that is changed is `ys`."""
@@ -31,6 +32,8 @@ def ty(t):
     if t in PRIMS: return PRIMS[t]
     m = re.match(r"&(mut )?\[([\w:]+)\]", t)
     if m: return ("mut" if m.group(1) else "shr", ty(m.group(2)))
+    m = re.match(r"\[([\w:]+); (\d+)\]", t)
+    if m: return ArrayOf(ty(m.group(1)), int(m.group(2)))
     if t not in MADE:
         MADE[t] = (struct if t in STRUCTS else enum)(*parts(t), parts(t)[2] + "₁")
         MADE[t].fields = STRUCTS.get(t, [])
@@ -65,8 +68,11 @@ def mirty(t):
     if t[0] == "tyInt": return "(tyInt w%s)" % t[1]
     if t[0] == "tyNamed": return ty(t[1][1].strip('"')).mir
     if t[0] == "tyRef":
-        e = t[3]; e = "(pointee (%s .written))" % ty(e[1][1].strip('"')).row if e[0] == "tyNamed" else mirty(e)
-        return "(tyRef erased %s %s)" % (t[2], e)
+        def behind(e):
+            if e[0] == "tyNamed": return "(pointee (%s .written))" % ty(e[1][1].strip('"')).row
+            return "(tyArray %s %s)" % (behind(e[1]), e[2][1]) if e[0] == "tyArray" else mirty(e)
+        return "(tyRef erased %s %s)" % (t[2], behind(t[3]))
+    if t[0] == "tyArray": return "(tyArray %s %s)" % (mirty(t[1]), t[2][1])
     if t[0] == "tyStruct": return "(sliceTy %s)" % mirty(items(t[2])[0])
     raise SystemExit("no such type of a local: %s" % t)
 def place(x): return int(x[1]), items(x[2])
@@ -87,7 +93,7 @@ def reads(s):
     elif s[0] == "if": go(s[1]); [out.update(reads(y)) for y in flat(s[2])]
     return out
 
-def thin(crate, module, fn, results, uses, right=None, change=None, note=""):
+def thin(crate, module, fn, results, uses, right=None, change=None, then=None, settled=None, note=""):
     here = crate + "::" + (module + "::" if module else "")
     f = find(parse(subprocess.run(["rt", "mir", crate], capture_output=True, text=True).stdout), here + fn)
     params = [[n, ty(t)] for n, t in FNS[here + fn][0]]
@@ -114,6 +120,7 @@ def thin(crate, module, fn, results, uses, right=None, change=None, note=""):
     s = Line(w)
     byloc = {w.loc[n]: n for n, _ in params}
     kinds = dict(params)
+    lent = None
     held, queue, i = {}, list(results), 0      # held: the local of a result, a length or a lent slice -> what it is
     def arg(o):
         if isinstance(o, tuple):
@@ -135,6 +142,15 @@ def thin(crate, module, fn, results, uses, right=None, change=None, note=""):
                     if y[0] in ("assign", "call") and place(y[-1] if y[0] == "call" else y[1])[0] == k: out.append(k); break
                 else: out.append(k)
             return out
+        if st[0] == "assign" and st[2][0] == "rvOpd" and not place(st[2][1][1])[1] and place(st[2][1][1])[0] in byloc:
+            # an array that is copied into a slot and lent as a slice
+            n = byloc[place(st[2][1][1])[0]]
+            lent = {"name": n, "elem": kinds[n].elem, "slot": place(st[1])[0], "addr": place(body[i + 1][1])[0], "pair": place(body[i + 2][1])[0], "copy": None, "after": []}
+            lent["mut"] = locs[lent["addr"]][2] == "mut"
+            held[lent["pair"]] = ("slice", n); i += 3; s.n += 3; continue
+        if lent and st[0] == "assign" and st[2][0] == "addrOf":
+            n = byloc[place(st[2][1])[0]]; a = place(st[1])[0]; b = place(body[i + 1][1])[0]
+            lent["after"].append((n, (a, b))); held[b] = ("slice", n); i += 2; continue
         if st[0] == "assign" and st[2][0] == "addrOf":
             n = byloc[place(st[2][1])[0]]; a = place(st[1])[0]; b = place(body[i + 1][1])[0]
             s.lend(n, a, b); held[b] = ("slice", n); i += 2; continue
@@ -145,9 +161,15 @@ def thin(crate, module, fn, results, uses, right=None, change=None, note=""):
             full, c = callee(st)
             ops = [opd(o) for o in items(st[2])]; into = place(st[3])[0]
             args = [arg(o) for o in ops]
-            if into == 0 and right:
+            if right and not then and into == 0 or then and any(isinstance(x, tuple) for x in args):
                 deps = sorted(set(re.findall(r"\{([\w-]+)\}", " ".join(right))), key=lambda d: [r.name for r in s.results].index(d))
-                s.last(c, args, ops, right, deps); break
+                if settled: s.settled, s.shown = [y for y, _ in settled], [y for _, y in settled]
+                if not then: s.last(c, args, ops, right, deps, lent=lent); break
+                if lent and lent["mut"]: lent["copy"] = place(later[0][1])[0]; held[lent["copy"]] = "back"; later = later[1:]
+                _, d = callee(later[0])
+                ops2 = [opd(o) for o in items(later[0][2])]
+                held[into] = "got"
+                s.last(c, args, ops, right, deps, into, ty(FNS[full][1]), (d, [arg(o) for o in ops2], ops2, then), lent); break
             name, spec = queue.pop(0)
             shown = any(isinstance(x, tuple) and kinds[x[1]][0] == "mut" for x in args)
             was = s.vals.get(into)

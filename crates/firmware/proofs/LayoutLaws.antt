@@ -1,7 +1,7 @@
 -- Laws of the fields in octets (`specs/Layout.antt`): what is put there is read back as it was.
-use Prim.Native.Nat.{ℕ, _+_, _%_, _<_}
+use Prim.Native.Nat.{ℕ, _+_, _<_}
 use mathlib.Core.Path.{_≡_, refl, sym, ap, _∙_}
-use mathlib.Core.List.{List, [], _∷_, _++_, append-nil, append-assoc}
+use mathlib.Core.List.{List, [], _∷_, _++_, append-assoc}
 use native.Mathlib.Omega.{arith}
 use native.Mathlib.Nat.{mod-eq-of-lt}
 use lib.ListN.{length, getD, take, drop, replicate, length-append}
@@ -11,13 +11,13 @@ use Rattle.wire.specs.declared.fields.KeyOctets.{KeyOctets}
 use Rattle.wire.specs.declared.fields.Params.{Params}
 use Rattle.wire.specs.declared.fields.Descriptor.{Descriptor}
 use Rattle.wire.specs.declared.fields.Fields.{Fields}
-use Rattle.wire.specs.Attributes.{be16, be32, two, four}
+use Rattle.wire.specs.Attributes.{two, four}
 use Rattle.wire.specs.Fields.{noDescriptor}
 use Rattle.wire.proofs.AttributesLaws.{be16-two, be32-four}
 use Rattle.wire.proofs.FieldsFit.{Shaped}
 use Rattle.wire.proofs.PartsWritten.{ShapedParams}
 use Rattle.keys.proofs.ListLaws.{of-four}
-use Rattle.firmware.specs.Layout.{keyLaid, paramsLaid, descriptorLaid, descriptorsLaid, headLaid, fieldsOctets, partAt, keyFrom, paramsFrom, descriptorFrom, descriptorsFrom, fieldsFrom}
+use Rattle.firmware.specs.Layout.{keyLaid, paramsLaid, descriptorLaid, descriptorsLaid, headLaid, fieldsOctets, keyFrom, paramsFrom, descriptorFrom, descriptorsFrom, fieldsFrom}
 
 -- ---- numbers within what their octets hold; those of one octet that are not named here are declared so
 pub record ParamsHeld (p : Params) : Type 0 where

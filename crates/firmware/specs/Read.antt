@@ -1,5 +1,4 @@
 -- The reading of a message for C (document 01, questions 1, 2 and 6 to 9).
-use mathlib.Core.Bool.{Bool}
 use mathlib.Core.Path.{_≡_}
 use mathlib.Core.List.{List, [], _∷_}
 use Prim.Native.Nat.{ℕ, zero, suc}

@@ -109,7 +109,7 @@ pub struct FrameSealed {
     pub width: usize,
 }
 
-fn frame_sealed(c: SealedCall) -> FrameSealed
+pub fn frame_sealed(c: SealedCall) -> FrameSealed
     ensures { λ r. ⌜ r ≡ frameSealed c ⌝ }
 {
     let a = c.answer;

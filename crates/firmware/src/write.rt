@@ -1,5 +1,4 @@
 // The writing of a message for C: its fields come in octets, as specs/Layout.antt says.
-ghost use mathlib.Core.Path.{_≡_};
 ghost use lib.ListN.{length};
 ghost use Rattle.firmware.specs.Write.{writeCallOf, Writes};
 use crate::layout::fields_from;

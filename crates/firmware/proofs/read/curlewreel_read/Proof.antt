@@ -1,5 +1,4 @@
 -- `firmware::read::curlewreel_read` meets its contract.
-use lib.ListN.{length}
 use denote.Ref.{now}
 use mathlib.Core.Path.{ap, _∙_}
 use borrow.Author.Tests.{le-leb, lt-leb}

@@ -1,0 +1,98 @@
+//! A call of either end, from its line in the form of `replay`.
+
+use crate::engine::Listing;
+use crate::plant::unhex;
+
+#[derive(Clone)]
+pub struct Frame {
+    pub direction: u8,
+    pub address: u64,
+    pub said: u16,
+    pub number: u8,
+}
+
+#[derive(Clone)]
+pub enum Call {
+    List { address: u64, allowed: u8, listing: Listing, material: Vec<u8> },
+    Clock { second: u64, material: Vec<u8> },
+    Established,
+    Reauth,
+    Up { address: u64, digest: u8, auth_key: Vec<u8>, octets: Vec<u8> },
+    Down { digest: u8, octets: Vec<u8> },
+    SealDown { address: u64, said: u16 },
+    SealUp { said: u16 },
+    OpenUp(Frame),
+    OpenDown(Frame),
+}
+
+/// A number too large for C's type becomes its largest, which is out of the limits too.
+fn two(n: u64) -> u16 {
+    n.min(65_535) as u16
+}
+
+fn one(n: u64) -> u8 {
+    n.min(255) as u8
+}
+
+impl Call {
+    /// The call of a line that has the form of one.
+    pub fn parse(line: &str) -> Call {
+        let f: Vec<&str> = line.split(',').collect();
+        let n = |at: usize| f[at].parse::<u64>().expect("a number");
+        let frame = || Frame { direction: one(n(1)), address: n(2), said: two(n(3)), number: one(n(4)) };
+        match f[0] {
+            "list" => Call::List { address: n(1), allowed: one(n(2)), listing: listing(&f[4..]), material: unhex(f[3]) },
+            "clock" => Call::Clock { second: n(1), material: unhex(f[2]) },
+            "established" => Call::Established,
+            "reauth" => Call::Reauth,
+            "up" => Call::Up { address: n(1), digest: one(n(2)), auth_key: unhex(f[3]), octets: unhex(f[4]) },
+            "down" => Call::Down { digest: one(n(1)), octets: unhex(f[2]) },
+            "sealdown" => Call::SealDown { address: n(1), said: two(n(2)) },
+            "sealup" => Call::SealUp { said: two(n(1)) },
+            "openup" => Call::OpenUp(frame()),
+            _ => Call::OpenDown(frame()),
+        }
+    }
+
+    /// Is it asked of the head-end, of the modem?
+    pub fn ends(&self) -> (bool, bool) {
+        match self {
+            Call::Clock { .. } => (true, true),
+            Call::List { .. } | Call::Up { .. } | Call::SealDown { .. } | Call::OpenUp(_) => (true, false),
+            _ => (false, true),
+        }
+    }
+
+    /// How many octets the slice for messages has to have.
+    pub fn room(&self) -> usize {
+        match self {
+            Call::Up { .. } => 342,
+            Call::OpenUp(_) => 40,
+            Call::List { .. } | Call::SealDown { .. } | Call::SealUp { .. } => 0,
+            _ => 216,
+        }
+    }
+
+    /// Does it lend slices for a TEK and a vector?
+    pub fn keys(&self) -> bool {
+        matches!(self, Call::SealDown { .. } | Call::SealUp { .. } | Call::OpenUp(_) | Call::OpenDown(_))
+    }
+
+    /// How many records a listing adds.
+    pub fn adds(&self) -> usize {
+        match self {
+            Call::List { listing, .. } => listing.count,
+            _ => 0,
+        }
+    }
+}
+
+/// The SAIDs and suites of a line; a fifth pair is counted and has no place. What stands behind the count is not to be asked.
+fn listing(pairs: &[&str]) -> Listing {
+    let mut out = Listing { count: pairs.len() / 2, saids: [65_535; 4], suites: [7; 4] };
+    for (i, pair) in pairs.chunks(2).take(4).enumerate() {
+        out.saids[i] = two(pair[0].parse().expect("a SAID"));
+        out.suites[i] = two(pair[1].parse().expect("a suite"));
+    }
+    out
+}

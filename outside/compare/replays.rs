@@ -1,0 +1,80 @@
+//! Comparison 1: a program that replays calls against the outside implementation, line by line: `replays LISTS CALLS SEED PROGRAM`.
+
+mod forge;
+mod make;
+mod plant;
+mod random;
+mod tally;
+mod text;
+
+use std::io::Write;
+use std::process::{Command, Stdio};
+use tally::{fail, number_of, Tally};
+
+/// What the program prints for an input.
+fn printed(program: &str, input: String) -> Vec<u8> {
+    let started = Command::new(program).stdin(Stdio::piped()).stdout(Stdio::piped()).spawn();
+    let mut child = started.unwrap_or_else(|e| fail(&format!("{program} does not start: {e}")));
+    let mut stdin = child.stdin.take().expect("a pipe");
+    // in a thread of its own: the program may print before it has read all; one that stops reading shows in what it printed
+    let feeder = std::thread::spawn(move || drop(stdin.write_all(input.as_bytes())));
+    let output = child.wait_with_output().unwrap_or_else(|e| fail(&format!("{program}: {e}")));
+    feeder.join().expect("the input was written");
+    if !output.status.success() {
+        fail(&format!("{program} ended with {}", output.status));
+    }
+    output.stdout
+}
+
+/// A line to show, with a long one cut.
+fn shown(line: Option<&[u8]>) -> String {
+    let Some(line) = line else { return "no line".to_string() };
+    let text = String::from_utf8_lossy(&line[..line.len().min(2_000)]).into_owned();
+    if line.len() > 2_000 {
+        format!("{text}.. ({} characters)", line.len())
+    } else {
+        text
+    }
+}
+
+/// The first line that differs, and the call that it answers: after a right start, answer 0 is that of the fifth line.
+fn differs(list: u64, input: &str, wanted: &[u8], given: &[u8]) -> ! {
+    let (wanted, given): (Vec<&[u8]>, Vec<&[u8]>) = (wanted.split(|c| *c == b'\n').collect(), given.split(|c| *c == b'\n').collect());
+    let at = (0..).find(|i| wanted.get(*i) != given.get(*i)).expect("they differ");
+    let lines: Vec<&[u8]> = input.as_bytes().split(|c| *c == b'\n').collect();
+    let set_up = lines[..lines.len().min(4)].join(&b'/');
+    let (set_up, call) = (shown(Some(set_up.as_slice())), shown(lines.get(at + 4).copied()));
+    let (wanted, given) = (shown(wanted.get(at).copied()), shown(given.get(at).copied()));
+    fail(&format!(
+        "differs, list {list}, line {} of the answers\n set-up {set_up}\n call {call}\n program {given}\n outside {wanted}",
+        at + 1
+    ))
+}
+
+fn main() {
+    let args: Vec<String> = std::env::args().skip(1).collect();
+    let n = |at: usize| args[at].parse::<u64>().expect("a number");
+    let (lists, calls, seed, program) = (n(0), n(1), n(2), &args[3]);
+    let (mut tally, mut no_calls, mut wrong_forms, mut wrong_values) = (Tally::default(), 0, 0, 0);
+    for list in seed..seed + lists {
+        let (input, wanted) = plant::list(list, plant::calls_of(list, calls));
+        let given = printed(program, input.clone());
+        if given != wanted.as_bytes() {
+            differs(list, &input, wanted.as_bytes(), &given);
+        }
+        match wanted.as_str() {
+            "?\n" => wrong_forms += 1,
+            "1\n" => wrong_values += 1,
+            _ => wanted.lines().filter(|l| !l.starts_with("frames")).for_each(|l| match number_of(l) {
+                Some(n) => tally.add(n),
+                None => no_calls += 1,
+            }),
+        }
+    }
+    println!("outside: {program}, {lists} lists of {calls} calls from seed {seed}, no difference");
+    println!("outside: lines that are no calls {no_calls}, set-ups wrong in form {wrong_forms}, out of their limits {wrong_values}");
+    tally.told("replay", &(0..15).collect::<Vec<_>>());
+    if no_calls == 0 || wrong_forms == 0 || wrong_values == 0 {
+        fail("a line that is no call, a set-up wrong in form or one out of its limits was not reached");
+    }
+}

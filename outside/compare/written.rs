@@ -1,0 +1,101 @@
+//! Messages that the library's writer wrote, with the values that each of them carries, for `dissect`: `written COUNT SEED`.
+//! A line has the message's octets and then, by the names of Wireshark's fields, the values in the order in which the message has them.
+
+mod engine;
+mod library;
+mod random;
+mod tally;
+
+use curlewreel_outside::message::{Descriptor, Fields, Params};
+use random::Random;
+
+fn hex(octets: &[u8]) -> String {
+    octets.iter().map(|o| format!("{o:02x}")).collect()
+}
+
+fn params(r: &mut Random, number: u8, life: u32) -> Params {
+    let width = r.pick(&[8, 16]);
+    Params { number, life, tek: r.octets(width), vector: r.octets(width) }
+}
+
+/// Fields within their limits, all that the code carries.
+fn fields(r: &mut Random, code: u8) -> Fields {
+    let mut f = Fields { code, ..Fields::default() };
+    let carries = |codes: &[u8]| codes.contains(&code);
+    if !carries(&[11, 12]) {
+        f.identifier = r.next() as u8;
+    }
+    if carries(&[5, 7, 8, 9, 11]) {
+        f.ak_number = r.below(16) as u8;
+    }
+    if carries(&[4, 7, 8, 9, 11]) {
+        f.said = r.below(16_384) as u16;
+    }
+    if carries(&[6, 9, 10, 11]) {
+        f.error = r.below(7) as u8;
+    }
+    if code == 5 {
+        f.life = 1 + r.below(12_096_000) as u32;
+        let first = r.below(16_000) as u16;
+        for i in 0..1 + r.below(4) as u16 {
+            f.descriptors.push(Descriptor { said: first + i, sa_type: r.below(3) as u8, suite: r.pick(&[256, 768]) });
+        }
+    }
+    if code == 8 {
+        let (number, life) = (r.below(16) as u8, 1 + r.below(300_000) as u32);
+        f.older = params(r, number, life);
+        let longer = life + 1 + r.below(300_000) as u32;
+        f.newer = params(r, (number + 1) % 16, longer);
+    }
+    f
+}
+
+fn line(name: &str, values: &[String]) -> String {
+    format!(" {name}={}", values.join(","))
+}
+
+/// The values of each field of Wireshark's, none for those that the code does not carry.
+fn values(f: &Fields, key: &[u8], octets: usize) -> String {
+    let (with_error, with_digest) = (matches!(f.code, 6 | 9 | 10 | 11), matches!(f.code, 7 | 8 | 9 | 11));
+    let pair: &[&Params] = if f.code == 8 { &[&f.older, &f.newer] } else { &[] };
+    let mut numbers: Vec<String> = if matches!(f.code, 5 | 7 | 8 | 9 | 11) { vec![f.ak_number.to_string()] } else { vec![] };
+    numbers.extend(pair.iter().map(|p| p.number.to_string()));
+    let mut saids: Vec<String> = if matches!(f.code, 4 | 7 | 8 | 9 | 11) { vec![f.said.to_string()] } else { vec![] };
+    saids.extend(f.descriptors.iter().map(|d| d.said.to_string()));
+    let mut lives: Vec<String> = if f.code == 5 { vec![f.life.to_string()] } else { vec![] };
+    lives.extend(pair.iter().map(|p| p.life.to_string()));
+    let some = |is: bool, value: String| if is { vec![value] } else { vec![] };
+    let each = |of: &dyn Fn(&Params) -> String| pair.iter().map(|p| of(p)).collect::<Vec<_>>();
+    let described = |of: &dyn Fn(&Descriptor) -> String| f.descriptors.iter().map(of).collect::<Vec<_>>();
+    [
+        line("code", &[f.code.to_string()]),
+        line("ident", &[f.identifier.to_string()]),
+        line("length", &[(octets - 4).to_string()]),
+        line("auth_key", &some(f.code == 5, hex(key))),
+        line("tek", &each(&|p| hex(&p.tek))),
+        line("keylife", &lives),
+        line("keyseq", &numbers),
+        line("hmacdigest", &some(with_digest, "00".repeat(20))),
+        line("said", &saids),
+        line("cbciv", &each(&|p| hex(&p.vector))),
+        line("errcode", &some(with_error, f.error.to_string())),
+        line("cryptosuite", &described(&|d| d.suite.to_string())),
+        line("satype", &described(&|d| d.sa_type.to_string())),
+    ]
+    .concat()
+}
+
+fn main() {
+    let mut args = std::env::args().skip(1).map(|a| a.parse::<u64>().expect("a number"));
+    let (count, seed) = (args.next().unwrap_or(90), args.next().unwrap_or(1));
+    let mut r = Random(seed);
+    for i in 0..count {
+        let f = fields(&mut r, 4 + (i % 9) as u8);
+        let n = 1 + r.below(256) as usize;
+        let key = r.octets(n);
+        let mut out = [0; 400];
+        let w = library::write(&library::laid_out(&f), &key, &mut out);
+        tally::check(w.number == 0, || format!("fields within their limits were not written: {f:?}: {}", w.number));
+        println!("{}{}", hex(&out[..w.count]), values(&f, &key, w.count));
+    }
+}
