@@ -1,0 +1,138 @@
+// The calls that reach the head-end, applied to both ends.
+ghost use mathlib.Core.Path.{_≡_};
+ghost use lib.Dec.{eqb};
+ghost use lib.ListN.{length};
+ghost use Rattle.keys.specs.Octets.{overlay};
+ghost use Rattle.keys.specs.Refusal.{answerNumber};
+ghost use Rattle.plant.specs.World.{list, clock, up, sealDown, openUp};
+ghost use Rattle.apply.specs.Steps.{worldOf};
+ghost use Rattle.apply.specs.Gave.{gaveOf};
+ghost use Rattle.apply.specs.Applied.{appliedOf, quietOf};
+use crate::ends::Applied;
+use crate::ends::Ends;
+use crate::ends::quiet;
+use crate::ends::refused;
+use crate::held::clock_held;
+use crate::held::list_held;
+use crate::held::open_held;
+use crate::held::receive_held;
+use crate::held::seal_held;
+use crate::modem_side::clock_modem;
+use association::record::Assoc;
+use calls::Call;
+use headend_steps::state::Called;
+use keys::numbers::TekNumber;
+use keys::refusal::answer_number;
+use keys::refusal::is_done;
+use modem_steps::state::Modem;
+
+// What a call of the head-end gives, with the modem as it was.
+fn of_head(c: Called, records: [Assoc; 64], modem: Modem) -> Applied
+    ensures { λ r. ⌜ r ≡ quietOf (answerNumber (c .answer)) (c .count) (c .state) records modem ⌝ }
+{
+    let a = c.answer;
+    let h = c.state;
+    let number = answer_number(a);
+    quiet(number, c.count, h, records, modem)
+}
+
+pub fn apply_list(e: Ends, c: Call, octets: &[u8]) -> Applied
+    ensures { λ r. ⌜ r ≡ appliedOf (worldOf e) (list (c .address) (c .word) (c .listing) (now (octets .entry))) ⌝ }
+{
+    let head = e.head;
+    let records = e.records;
+    let modem = e.modem;
+    let l = c.listing;
+    let r = list_held(head, records, c.address, c.word, l, octets);
+    let called = r.called;
+    let listed = r.records;
+    of_head(called, listed, modem)
+}
+
+// The clock goes to the second at both ends, or at neither.
+pub fn apply_clock(e: Ends, c: Call, octets: &[u8], out: &mut [u8]) -> Applied
+    ensures { λ r. ⌜ (r ≡ appliedOf (worldOf e) (clock (c .second) (now (octets .entry)) (length (now (out .entry)))))
+        × (now (out .exit) ≡ overlay (now (out .entry)) (gaveOf (worldOf e) (clock (c .second) (now (octets .entry)) (length (now (out .entry)))) .sent)) ⌝ }
+{
+    let head = e.head;
+    let records = e.records;
+    let r = clock_held(head, records, c.second, octets);
+    let called = r.called;
+    let a = called.answer;
+    if !is_done(a) {
+        let number = answer_number(a);
+        return refused(number, e);
+    }
+    let state = called.state;
+    let after = r.records;
+    clock_modem(e, state, after, c.second, out)
+}
+
+pub fn apply_up(e: Ends, c: Call, octets: &[u8], key: &[u8], out: &mut [u8]) -> Applied
+    ensures { λ r. ⌜ (r ≡ appliedOf (worldOf e) (up (c .address) (eqb (c .word) 1) (now (octets .entry)) (now (key .entry)) (length (now (out .entry)))))
+        × (now (out .exit) ≡ overlay (now (out .entry)) (gaveOf (worldOf e) (up (c .address) (eqb (c .word) 1) (now (octets .entry)) (now (key .entry)) (length (now (out .entry)))) .sent)) ⌝ }
+{
+    let head = e.head;
+    let records = e.records;
+    let modem = e.modem;
+    let r = receive_held(head, records, c.address, c.word == 1, octets, key, out);
+    of_head(r, records, modem)
+}
+
+pub fn apply_seal_down(e: Ends, c: Call, tek: &mut [u8], vector: &mut [u8]) -> Applied
+    ensures { λ r. ⌜ (r ≡ appliedOf (worldOf e) (sealDown (c .address) (c .said) (length (now (tek .entry))) (length (now (vector .entry)))))
+        × ((now (tek .exit) ≡ overlay (now (tek .entry)) (gaveOf (worldOf e) (sealDown (c .address) (c .said) (length (now (tek .entry))) (length (now (vector .entry)))) .out .tek))
+        × (now (vector .exit) ≡ overlay (now (vector .entry)) (gaveOf (worldOf e) (sealDown (c .address) (c .said) (length (now (tek .entry))) (length (now (vector .entry)))) .out .vector))) ⌝ }
+{
+    let head = e.head;
+    let records = e.records;
+    let r = seal_held(head, records, c.address, c.said, tek, vector);
+    let a = r.answer;
+    let key = r.number;
+    let number = answer_number(a);
+    Applied {
+        number: number,
+        key: key,
+        width: r.width,
+        count: 0,
+        ends: e,
+    }
+}
+
+pub fn apply_open_up(e: Ends, c: Call, tek: &mut [u8], vector: &mut [u8], out: &mut [u8]) -> Applied
+    ensures { λ r. ⌜ (r ≡ appliedOf (worldOf e) (openUp (c .word) (c .address) (c .said) (c .number) (length (now (tek .entry))) (length (now (vector .entry))) (length (now (out .entry)))))
+        × ((now (tek .exit) ≡ overlay (now (tek .entry)) (gaveOf (worldOf e) (openUp (c .word) (c .address) (c .said) (c .number) (length (now (tek .entry))) (length (now (vector .entry))) (length (now (out .entry)))) .out .tek))
+        × ((now (vector .exit) ≡ overlay (now (vector .entry)) (gaveOf (worldOf e) (openUp (c .word) (c .address) (c .said) (c .number) (length (now (tek .entry))) (length (now (vector .entry))) (length (now (out .entry)))) .out .vector))
+        × (now (out .exit) ≡ overlay (now (out .entry)) (gaveOf (worldOf e) (openUp (c .word) (c .address) (c .said) (c .number) (length (now (tek .entry))) (length (now (vector .entry))) (length (now (out .entry)))) .sent)))) ⌝ }
+{
+    let head = e.head;
+    let records = e.records;
+    let modem = e.modem;
+    let n = c.number;
+    let r = open_held(
+        head,
+        records,
+        c.word,
+        c.address,
+        c.said,
+        n,
+        tek,
+        vector,
+        out,
+    );
+    let a = r.answer;
+    let state = r.state;
+    let number = answer_number(a);
+    let ends = Ends {
+        head: state,
+        records: records,
+        modem: modem,
+    };
+    Applied {
+        number: number,
+        key: TekNumber(0),
+        width: r.width,
+        count: r.count,
+        ends: ends,
+    }
+}

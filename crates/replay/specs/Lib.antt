@@ -1,0 +1,2 @@
+-- What the program does with the characters of its input.
+pub mod Fed
