@@ -47,25 +47,26 @@ static size_t exchange(const uint8_t *message, size_t n) {
     return at_modem("  modem", curlewreel_modem_receive(modem, down, count, 1, up, sizeof up));
 }
 
-static void print_frame(const char *name, uint8_t number, uint8_t key, const uint8_t sealed[16], const uint8_t opened[16], size_t width) {
+/* A frame is well where it was opened, and with the TEK and vector that sealed it. */
+static void print_frame(const char *name, uint8_t number, uint8_t key, uint8_t sealed[2][16], uint8_t opened[2][16]) {
     printf("%s: %d, key %d, TEK", name, number, key);
-    print_octets("", sealed, 4);
-    print_octets(" and", opened, 4);
-    printf(", %s\n", memcmp(sealed, opened, width) == 0 ? "the same" : "not the same");
+    print_octets("", sealed[0], 4);
+    print_octets(" and", opened[0], 4);
+    printf(", %s\n", number == 0 && memcmp(sealed, opened, 32) == 0 ? "the same" : "not the same");
 }
 
 /* One end seals with a key, and the other opens a frame of that key's number. */
 static void frames(void) {
-    uint8_t tek[16], vector[16], other[16], invalid[40];
-    curlewreel_sealed s = curlewreel_headend_seal(headend, records, 64, ADDRESS, SAID, tek, 16, vector, 16);
-    curlewreel_modem_opening o = curlewreel_modem_open(modem, 1, ADDRESS, SAID, s.key, other, 16, vector, 16, up, sizeof up);
+    uint8_t sealed[2][16] = {{0}}, opened[2][16] = {{0}}, invalid[40];
+    curlewreel_sealed s = curlewreel_headend_seal(headend, records, 64, ADDRESS, SAID, sealed[0], 16, sealed[1], 16);
+    curlewreel_modem_opening o = curlewreel_modem_open(modem, 1, ADDRESS, SAID, s.key, opened[0], 16, opened[1], 16, up, sizeof up);
     modem = o.modem;
-    print_frame("frame down", o.number, s.key, tek, other, o.width);
-    s = curlewreel_modem_seal(modem, SAID, tek, 16, vector, 16);
+    print_frame("frame down", o.number, s.key, sealed, opened);
+    s = curlewreel_modem_seal(modem, SAID, sealed[0], 16, sealed[1], 16);
     curlewreel_headend_opening p =
-        curlewreel_headend_open(headend, records, 64, 0, ADDRESS, SAID, s.key, other, 16, vector, 16, invalid, sizeof invalid);
+        curlewreel_headend_open(headend, records, 64, 0, ADDRESS, SAID, s.key, opened[0], 16, opened[1], 16, invalid, sizeof invalid);
     headend = p.headend;
-    print_frame("frame up", p.number, s.key, tek, other, p.width);
+    print_frame("frame up", p.number, s.key, sealed, opened);
 }
 
 /* The clock of both ends; material for new keys, an octet of its own for each place. */

@@ -117,7 +117,8 @@ curlewreel_written curlewreel_write(const uint8_t *fields, size_t fields_len, co
 
 /* The modem. Its state passes by value in and out: start with curlewreel_modem_new, keep what each call hands back, and give it to the
  * next. Every call asks the whole state (1), so one that was damaged is refused, and a refusal hands the modem back as it was, but for 13
- * at an opening and for the count of frames refused with 10 or 13. Messages of one call stand end to end, each with its own length. */
+ * at an opening and for the count of frames refused with 10 or 13, and gives 0 for counts, widths and a key's number, but for what 13 puts out.
+ * Messages of one call stand end to end, each with its own length. */
 
 typedef struct {
     uint64_t tek_life, tek_grace;                                 /* 1,800 to 604,800 s and even; 300 to life / 2 - 1 */
@@ -209,18 +210,20 @@ typedef struct {
     curlewreel_modem modem;
 } curlewreel_modem_opening;
 
-/* The held key with the frame's number whose deadline is after the clock, at the front of `tek` and `vector`; the modem's `taken` is one more.
- * Refuses, and then writes no key: 1 the state or a field (a frame comes down: direction 1); 2 slices of fewer than 16, 16 and 216 octets;
- * 10 another address or an unknown SAID; 13 no such key. On 10 and 13 `refused` is one more; on 13 the SAID's machine takes TEK Invalid, and
- * what it sends is written to `out`. */
+/* The held key with the frame's number whose deadline is after the clock, at the front of `tek` and `vector`; the modem's `taken` is one more
+ * (2^64 - 1 stays). Refuses, and then writes no key: 1 the state or a field (a frame comes down: direction 1); 2 slices of fewer than 16, 16
+ * and 216 octets; 10 another address or an unknown SAID; 13 no such key. On 10 and 13 `refused` is one more (2^64 - 1 stays); on 13 the
+ * SAID's machine takes TEK Invalid, and what it sends is written to `out`. */
 curlewreel_modem_opening curlewreel_modem_open(curlewreel_modem modem, uint8_t direction, uint64_t address, uint16_t said, uint8_t number,
                                                uint8_t *tek, size_t tek_len, uint8_t *vector, size_t vector_len, uint8_t *out,
                                                size_t out_len);
 
-/* The head-end. Its state passes by value in and out like the modem's; the records of its associations are a slice of the caller's, of up to
- * 64, which `list` and `clock` change and the other calls read. The state says how many are in use, from the front; what stands behind them
- * is neither asked nor changed but by a listing. Every call asks the whole state and each record in use (1), and that the slice has them (2). A
- * refusal leaves state and records as they were, but for the count of frames refused with 10 or 13. */
+/* The head-end. Its state passes by value in and out like the modem's; the records of its associations are a slice of the caller's, of
+ * any length, of which at most 64 come into use; `list` and `clock` change them and the other calls read them. The state says how many are in
+ * use, from the front; what stands behind them is neither asked nor changed but by a listing. Every call asks the whole state and each record
+ * in use (1), and that the slice has them (2). A SAID that an entry lists has its record among those in use, with the entry's suite: asked
+ * (1) where a Key Reply, a sealing or an opening uses it. A refusal leaves state and records as they were, but for the count of frames
+ * refused with 10 or 13, and gives 0 for counts, widths and a key's number, but for what 13 puts out. */
 
 typedef struct {
     uint16_t said, suite;         /* suite 256 (8 octets of TEK and of vector) or 768 (16) */
@@ -287,7 +290,7 @@ curlewreel_headend_call curlewreel_headend_receive(curlewreel_headend headend, c
 
 /* The older key of a SAID of that modem, to seal a frame with, at the front of `tek` and `vector`; their other octets stay as they were.
  * Refuses, and then writes nothing: 1 the state, a record, the address or the SAID; 2 fewer records than are in use, or a slice of fewer
- * than 16 octets; 10 a SAID that is not the modem's. */
+ * than 16 octets; 10 an address that is not listed, or a SAID that is not that modem's. */
 curlewreel_sealed curlewreel_headend_seal(curlewreel_headend headend, const curlewreel_record *records, size_t records_len,
                                           uint64_t address, uint16_t said, uint8_t *tek, size_t tek_len, uint8_t *vector,
                                           size_t vector_len);
@@ -300,10 +303,11 @@ typedef struct {
     curlewreel_headend headend;
 } curlewreel_headend_opening;
 
-/* The held key with the frame's number, at the front of `tek` and `vector`; the head-end's `taken` is one more.
+/* The held key with the frame's number, at the front of `tek` and `vector`; the head-end's `taken` is one more (2^64 - 1 stays).
  * Refuses, and then writes no key: 1 the state, a record or a field (a frame comes up: direction 0); 2 fewer records than are in use, or slices
- * of fewer than 16, 16 and 40 octets; 10 a SAID that is not the modem's; 13 no such key. On 10 and 13 `refused` is one more; on 13 a TEK
- * Invalid for the modem is written to `invalid`, where an authorization key of it is active. */
+ * of fewer than 16, 16 and 40 octets; 10 an address that is not listed, or a SAID that is not that modem's; 13 no such key. On 10 and 13
+ * `refused` is one more (2^64 - 1 stays); on 13 a TEK Invalid for the modem is written to `invalid`, where an authorization key of it is
+ * active. */
 curlewreel_headend_opening curlewreel_headend_open(curlewreel_headend headend, const curlewreel_record *records, size_t records_len,
                                                    uint8_t direction, uint64_t address, uint16_t said, uint8_t number, uint8_t *tek,
                                                    size_t tek_len, uint8_t *vector, size_t vector_len, uint8_t *invalid,

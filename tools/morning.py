@@ -1,6 +1,7 @@
 #!/usr/bin/env python3
 """Writes the stored run of `replay` (crates/replay/stdin): a hotel's morning. Later calls carry octets that earlier calls gave, so the calls are
-asked one after the other of a program that replays calls. `tools/morning.py PROGRAM > crates/replay/stdin`."""
+asked one after the other of a program that replays calls. `tools/morning.py PROGRAM > crates/replay/stdin`, and `PROGRAM < crates/replay/stdin > crates/replay/stdout`; the outside implementation was the
+program."""
 import subprocess
 import sys
 

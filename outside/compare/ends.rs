@@ -1,4 +1,4 @@
-//! Comparison 3: both ends of the library, their states by value through C's structs, against the outside ones on random lists of calls.
+//! Both ends of the library, their states by value through C's structs, against the outside ones on random lists of calls.
 //! Every answer, state, record and lent octet is compared; short slices and damaged states have to be refused. `ends LISTS CALLS SEED`.
 
 mod as_c;

@@ -1,4 +1,4 @@
-//! Comparison 2: the reader, the writer and the frame decision of the static library against the outside implementation, on random
+//! The reader, the writer and the frame decision of the static library against the outside implementation, on random
 //! and damaged octets. Every octet of every lent slice is compared. `compare COUNT SEED`.
 
 mod engine;

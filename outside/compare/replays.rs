@@ -1,4 +1,4 @@
-//! Comparison 1: a program that replays calls against the outside implementation, line by line: `replays LISTS CALLS SEED PROGRAM`.
+//! A program that replays calls against the outside implementation, line by line: `replays LISTS CALLS SEED PROGRAM`.
 
 mod forge;
 mod make;

@@ -4,9 +4,9 @@ use crate::engine::Modem;
 use crate::tally::fail;
 use std::collections::BTreeMap;
 
-/// Document 01's transitions to another state.
+/// Document 01's transitions to another state, whichever event makes them.
 const AUTHORIZATION: [&str; 9] = ["AB", "BC", "BE", "BF", "CD", "DC", "DE", "DF", "EA"];
-const TEK: [&str; 15] = ["BA", "BC", "BD", "CA", "CB", "DA", "DB", "DE", "EA", "EB", "ED", "EF", "FA", "FC", "FE"];
+const TEK: [&str; 16] = ["AB", "BA", "BC", "BD", "CA", "CB", "DA", "DB", "DE", "EA", "EB", "ED", "EF", "FA", "FC", "FE"];
 
 #[derive(Default)]
 pub struct Transitions {

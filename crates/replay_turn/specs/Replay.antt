@@ -1,7 +1,7 @@
 -- A run of the program `replay` line by line: four lines of set-up, then calls on the fresh pair of plant's. A wrong start answers "?" alone, and
 -- set-up values out of their limits "1" alone; what has no form comes before what is out of its limits.
 use mathlib.Core.Bool.{Bool, true, false, cond, _&&_}
-use mathlib.Core.List.{List, [], _∷_, _++_}
+use mathlib.Core.List.{List, [], _∷_}
 use Prim.Native.Nat.{ℕ}
 use lib.ListN.{replicate}
 use Rattle.keys.specs.declared.settings.Settings.{Settings}
@@ -93,11 +93,3 @@ endTextAt Stopped e = []
 
 abbrev pub endText : Replay → List ℕ
 endText s = endTextAt (s .stage) (s .ends)
-
--- ---- a whole run: what the program answers to lines, one after the other
-abbrev pub outputFrom : Replay → List (List ℕ) → List ℕ
-outputFrom s [] = endText s
-outputFrom s (line ∷ lines) = lineText s line ++ outputFrom (afterLine s line) lines
-
-abbrev pub outputOf : List (List ℕ) → List ℕ
-outputOf lines = outputFrom beginning lines
