@@ -1,5 +1,6 @@
 //! Messages that the library's writer wrote, with the values that each of them carries, for `dissect`: `written COUNT SEED`.
-//! A line has the message's octets and then, by the names of Wireshark's fields, the values in the order in which the message has them.
+//! A line has the message's octets and then, by the names of Wireshark's fields (without `docsis_bpkm.`), the values in the order in which
+//! the message has them.
 
 mod engine;
 mod library;
@@ -54,6 +55,20 @@ fn line(name: &str, values: &[String]) -> String {
     format!(" {name}={}", values.join(","))
 }
 
+/// Type and length of each attribute in the standard order, a compound before what it holds.
+fn attributes(f: &Fields, key: &[u8]) -> Vec<(u8, usize)> {
+    let of_key = |p: &Params| [(13, 17 + p.tek.len() + p.vector.len()), (8, p.tek.len()), (9, 4), (10, 1), (15, p.vector.len())];
+    match f.code {
+        4 => vec![(12, 2)],
+        5 => [vec![(7, key.len()), (9, 4), (10, 1)], [(23, 14), (12, 2), (24, 1), (20, 2)].repeat(f.descriptors.len())].concat(),
+        6 | 10 => vec![(16, 1)],
+        7 => vec![(10, 1), (12, 2), (11, 20)],
+        8 => [&[(10, 1), (12, 2)][..], &of_key(&f.older), &of_key(&f.newer), &[(11, 20)]].concat(),
+        9 | 11 => vec![(10, 1), (12, 2), (16, 1), (11, 20)],
+        _ => vec![],
+    }
+}
+
 /// The values of each field of Wireshark's, none for those that the code does not carry.
 fn values(f: &Fields, key: &[u8], octets: usize) -> String {
     let (with_error, with_digest) = (matches!(f.code, 6 | 9 | 10 | 11), matches!(f.code, 7 | 8 | 9 | 11));
@@ -67,20 +82,23 @@ fn values(f: &Fields, key: &[u8], octets: usize) -> String {
     let some = |is: bool, value: String| if is { vec![value] } else { vec![] };
     let each = |of: &dyn Fn(&Params) -> String| pair.iter().map(|p| of(p)).collect::<Vec<_>>();
     let described = |of: &dyn Fn(&Descriptor) -> String| f.descriptors.iter().map(of).collect::<Vec<_>>();
+    let (types, lengths): (Vec<_>, Vec<_>) = attributes(f, key).iter().map(|(t, n)| (t.to_string(), n.to_string())).unzip();
     [
         line("code", &[f.code.to_string()]),
         line("ident", &[f.identifier.to_string()]),
         line("length", &[(octets - 4).to_string()]),
-        line("auth_key", &some(f.code == 5, hex(key))),
-        line("tek", &each(&|p| hex(&p.tek))),
-        line("keylife", &lives),
-        line("keyseq", &numbers),
-        line("hmacdigest", &some(with_digest, "00".repeat(20))),
-        line("said", &saids),
-        line("cbciv", &each(&|p| hex(&p.vector))),
-        line("errcode", &some(with_error, f.error.to_string())),
-        line("cryptosuite", &described(&|d| d.suite.to_string())),
-        line("satype", &described(&|d| d.sa_type.to_string())),
+        line("attr.type", &types),
+        line("attr.length", &lengths),
+        line("attr.auth_key", &some(f.code == 5, hex(key))),
+        line("attr.tek", &each(&|p| hex(&p.tek))),
+        line("attr.keylife", &lives),
+        line("attr.keyseq", &numbers),
+        line("attr.hmacdigest", &some(with_digest, "00".repeat(20))),
+        line("attr.said", &saids),
+        line("attr.cbciv", &each(&|p| hex(&p.vector))),
+        line("attr.errcode", &some(with_error, f.error.to_string())),
+        line("attr.cryptosuite", &described(&|d| d.suite.to_string())),
+        line("attr.satype", &described(&|d| d.sa_type.to_string())),
     ]
     .concat()
 }
@@ -91,7 +109,9 @@ fn main() {
     let mut r = Random(seed);
     for i in 0..count {
         let f = fields(&mut r, 4 + (i % 9) as u8);
-        let n = 1 + r.below(256) as usize;
+        // Wireshark shows an AUTH-Key of one of three lengths alone
+        let any = 1 + r.below(256) as usize;
+        let n = r.pick(&[96, 128, 256, any]);
         let key = r.octets(n);
         let mut out = [0; 400];
         let w = library::write(&library::laid_out(&f), &key, &mut out);
