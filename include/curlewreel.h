@@ -116,7 +116,7 @@ curlewreel_written curlewreel_write(const uint8_t *fields, size_t fields_len, co
                                     uint8_t *out, size_t out_len);
 
 /* The modem. Its state passes by value in and out: start with curlewreel_modem_new, keep what each call hands back, and give it to the
- * next. Every call asks the whole state (1), so one that was damaged is refused, and a refusal hands the modem back as it was, but for 13
+ * next. Every call asks the whole state (1), so one that is out of its limits is refused, and a refusal hands the modem back as it was, but for 13
  * at an opening and for the count of frames refused with 10 or 13, and gives 0 for counts, widths and a key's number, but for what 13 puts out.
  * Messages of one call stand end to end, each with its own length. */
 

@@ -1,7 +1,7 @@
-"""The walks of apply::held: the head-end's calls on records that are held by value."""
+"""The walks of apply_held::held: the head-end's calls on records that are held by value."""
 from thin import thin
 
-LENT = "use Rattle.apply.proofs.ArrayLent.{%s}"
+LENT = "use Rattle.apply_held.proofs.ArrayLent.{%s}"
 CALLS = "use Rattle.headend.specs.Calls.{%s}"
 OCTETS = "use Rattle.keys.specs.Octets.{overlay}"
 KEY = [("tek", ".out .tek"), ("vector", ".out .vector")]
@@ -23,5 +23,5 @@ thin("apply", "held", "seal_held", [], [LENT % "array-shown, array-home, Part", 
      right=("sealCalled (%s)" % SEAL,) + written("(%s)" % SEAL, KEY))
 
 OPEN = "openOf h records direction address said number (length (tek .now)) (length (vector .now)) (length (invalid .now))"
-thin("apply", "held", "open_held", [], [LENT % "array-shown, array-home, Part", OCTETS, "use Rattle.headend_steps.specs.FrameCalled.{openCalled}", "use Rattle.headend.specs.FrameCalls.{openOf}"],
+thin("apply", "held", "open_held", [], [LENT % "array-shown, array-home, Part", OCTETS, "use Rattle.headend_frames.specs.FrameCalled.{openCalled}", "use Rattle.headend.specs.FrameCalls.{openOf}"],
      right=("openCalled (%s)" % OPEN,) + written("(%s)" % OPEN, KEY + [("invalid", ".invalid")]))

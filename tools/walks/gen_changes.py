@@ -15,13 +15,13 @@ def changes(fn, found, called, uses, law, left, needs, made, stored):
 
 changes("list", [("named-by", "oneOf l"), ("clash", "firstOf {named-by} ys")],
         "listCalled h address allowed l {bad} {clash} (length ys) (length (material .now))",
-        ["use Rattle.records.specs.Records.{firstOf, storedAt, StoreFit}", "use Rattle.headend_steps.specs.Search.{halfIn, outOfLimits, oneOf}",
+        ["use Rattle.records.specs.Records.{firstOf, storedAt, StoreFit}", "use Rattle.headend_limits.specs.Search.{halfIn, outOfLimits, oneOf}",
          "use Rattle.headend_steps.specs.Listing.{listCalled}", "use Rattle.headend.specs.Calls.{listRecords}"],
         "h ys address allowed l (material .now) {}", "listRecords h ys address allowed l (material .now)",
         "StoreFit (h .used) (l .count) {half} (h .clock) (length ys) (length (material .now))",
         "storedAt (h .used) {half} (h .clock) (material .now) l (l .count) ys", "stored")
 changes("clock", [], "clockCalled h t {bad} (length ys) (length (material .now))",
-        ["use Rattle.records.specs.Records.{firstOf, rolledTo, RollFit}", "use Rattle.headend_steps.specs.Search.{halfIn, outOfLimits}",
+        ["use Rattle.records.specs.Records.{firstOf, rolledTo, RollFit}", "use Rattle.headend_limits.specs.Search.{halfIn, outOfLimits}",
          "use Rattle.headend_steps.specs.Clock.{clockCalled}", "use Rattle.headend.specs.Calls.{clockRecords}"],
         "h ys t (material .now) {}", "clockRecords h ys t (material .now)", "RollFit (h .used) {half} t ys (length (material .now))",
         "rolledTo {half} t (material .now) 0 (h .used) ys", "rolled")

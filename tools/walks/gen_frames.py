@@ -7,12 +7,12 @@ def frame(fn, over, handed, uses, written):
     thin("headend", "frames", fn,
          [("sick", "outOfLimits h"), ("bad", "firstOf {sick} (records .now)"), ("sought", "OfSaid said"), ("found", "lookupOf {sought} (records .now)")],
          ["use Rattle.keys.specs.Octets.{overlay}", "use Rattle.association.specs.declared.search.Probe.the-variants.{OfSaid}",
-          "use Rattle.records.specs.Records.{firstOf, lookupOf}", "use Rattle.headend_steps.specs.Search.{outOfLimits}"] + uses,
+          "use Rattle.records.specs.Records.{firstOf, lookupOf}", "use Rattle.headend_limits.specs.Search.{outOfLimits}"] + uses,
          right=("%s (%s)" % (handed, over),) + tuple("overlay (%s .now) (%s %s)" % (s, over, part) for s, part in written))
 
 
 KEY = [("tek", ".out .tek"), ("vector", ".out .vector")]
 frame("seal", "sealedWith h {bad} (length (records .now)) {found} address said (length (tek .now)) (length (vector .now))", "sealCalled",
-      ["use Rattle.headend_steps.specs.Frames.{sealedWith}", "use Rattle.keys.specs.Sealing.{sealCalled}"], KEY)
+      ["use Rattle.headend_frames.specs.Frames.{sealedWith}", "use Rattle.keys.specs.Sealing.{sealCalled}"], KEY)
 frame("open", "openedWith h {bad} (length (records .now)) {found} direction address said number (length (tek .now)) (length (vector .now)) (length (invalid .now))",
-      "openCalled", ["use Rattle.headend_steps.specs.Frames.{openedWith}", "use Rattle.headend_steps.specs.FrameCalled.{openCalled}"], KEY + [("invalid", ".invalid")])
+      "openCalled", ["use Rattle.headend_frames.specs.Frames.{openedWith}", "use Rattle.headend_frames.specs.FrameCalled.{openCalled}"], KEY + [("invalid", ".invalid")])

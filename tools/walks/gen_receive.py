@@ -4,5 +4,5 @@ over = "h {bad} (length (records .now)) {found} address digest {reading} (key .n
 thin("headend", "calls", "receive",
      [("sick", "outOfLimits h"), ("bad", "firstOf {sick} (records .now)"), ("reading", "readOf AtHeadEnd (message .now)"), ("sought", "ofRequest {reading}"), ("found", "lookupOf {sought} (records .now)")],
      ["use Rattle.keys.specs.Octets.{overlay}", "use Rattle.wire.specs.declared.fields.Receiver.the-variants.{HeadEnd as AtHeadEnd}", "use Rattle.wire.specs.Reading.{readOf}",
-      "use Rattle.records.specs.Records.{firstOf, lookupOf}", "use Rattle.headend_steps.specs.Search.{outOfLimits, ofRequest}", "use Rattle.headend_steps.specs.Receive.{receiveCalled, receiveWritten}"],
+      "use Rattle.records.specs.Records.{firstOf, lookupOf}", "use Rattle.headend_limits.specs.Search.{outOfLimits, ofRequest}", "use Rattle.headend_steps.specs.Receive.{receiveCalled, receiveWritten}"],
      right=("receiveCalled " + over, "overlay (out .now) (receiveWritten " + over + ")"))

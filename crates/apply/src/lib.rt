@@ -2,7 +2,4 @@
 // what it gives is plant's definition of that step (`stepOf`), with every lent octet; specs/Steps.antt says which step a call is, and
 // specs/Gave.antt what it gives out.
 pub mod apply;
-pub mod ends;
 pub mod head;
-pub mod held;
-pub mod modem_side;

@@ -1,6 +1,6 @@
 -- Laws of the limits of a record (`specs/Record.antt`): its tests, the facts that they say together, and that minting, listing
 -- and the clock's rule stay within them.
-use mathlib.Core.Path.{_≡_, refl, sym, _∙_, ap}
+use mathlib.Core.Path.{_≡_, refl}
 use mathlib.Core.Bool.{Bool, true, false, _&&_, and-false}
 use Prim.Native.Nat.{ℕ, _+_, _-_, _*_, _<_, _≤_}
 use mathlib.Core.List.{List}
@@ -8,7 +8,6 @@ use native.Mathlib.Omega.{arith}
 use lib.Dec.{leb, ltb, eqb}
 use borrow.Author.Tests.{le-ltb, lt-ltb, le-leb, eq-eqb, ne-eqb, ltb-true, leb-true, eqb-true}
 use Rattle.keys.specs.declared.numbers.TekNumber.{TekNumber}
-use Rattle.keys.specs.declared.traffic.TrafficKey.{TrafficKey}
 use Rattle.keys.specs.Numbers.{tekInRange, afterOf, tekNumber}
 use Rattle.keys.specs.Suites.{suiteKnown, widthOf}
 use Rattle.keys.specs.Traffic.{keyFits, follows}
@@ -20,7 +19,8 @@ use Rattle.association.specs.declared.record.Assoc.{Assoc}
 use Rattle.association.specs.Mint.{mintOf}
 use Rattle.association.specs.Roll.{rolledBy, rolledOf}
 use Rattle.association.specs.Listing.{freshOf}
-use Rattle.association.specs.Record.{saidFits, deadlinesFit, recordFits, Rollable}
+use Rattle.keys.specs.Addresses.{saidFits}
+use Rattle.association.specs.Record.{deadlinesFit, recordFits, Rollable}
 
 -- ---- the tests of the deadlines, one by one
 module _ (half clock older newer : ℕ) where

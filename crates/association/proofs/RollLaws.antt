@@ -1,5 +1,5 @@
 -- Laws of the clock's rule on one record: what it mints, by case, and that it is the rule of the keys made.
-use mathlib.Core.Path.{_≡_, refl, sym, _∙_, ap}
+use mathlib.Core.Path.{_≡_, refl, ap}
 use mathlib.Core.Bool.{Bool, true, false}
 use Prim.Native.Nat.{ℕ, _+_, _*_, _%_, _<_, _≤_}
 use mathlib.Core.List.{List}

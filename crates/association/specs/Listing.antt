@@ -3,7 +3,7 @@ use mathlib.Core.Bool.{Bool, _&&_, _||_}
 use Prim.Native.Nat.{ℕ, _+_, _*_, _≤_}
 use mathlib.Core.List.{List}
 use lib.Dec.{ltb, eqb}
-use lib.ListN.{getD}
+use lib.ListN.{getD, replicate}
 use Rattle.keys.specs.Numbers.{tekNumber}
 use Rattle.keys.specs.Suites.{widthOf}
 use Rattle.association.specs.declared.record.Assoc.{Assoc}
@@ -23,6 +23,10 @@ freshOf half clock m at said suite =
 -- The record of the SAID at place i of a listing
 abbrev pub listedOf : ℕ → ℕ → List ℕ → ℕ → Listing → ℕ → Assoc
 listedOf half clock m at l i = freshOf half clock m at (getD (l .saids) i 0) (getD (l .suites) i 0)
+
+-- A listing that names nothing
+abbrev pub noListing : Listing
+noListing = record { count = 0; saids = replicate 4 0; suites = replicate 4 0 }
 
 -- A SAID is one of the first few of four
 unfoldable pub namesOf : ℕ → ℕ → ℕ → ℕ → ℕ → ℕ → Bool

@@ -4,12 +4,9 @@ use mathlib.Core.Path.{_≡_}
 use Prim.Native.Nat.{ℕ, _+_, _≤_}
 use lib.Dec.{leb, ltb, eqb}
 use Rattle.keys.specs.Suites.{suiteKnown, widthOf}
+use Rattle.keys.specs.Addresses.{saidFits}
 use Rattle.keys.specs.Traffic.{keyFits, follows}
 use Rattle.association.specs.declared.record.Assoc.{Assoc}
-
--- 14 bits
-abbrev pub saidFits : ℕ → Bool
-saidFits said = leb said 16383
 
 -- The older's deadline is after the clock, by H at most; the newer's is H more
 unfoldable pub deadlinesFit : ℕ → ℕ → ℕ → ℕ → Bool

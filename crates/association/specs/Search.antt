@@ -2,8 +2,7 @@
 use mathlib.Core.Bool.{Bool, true, false, not}
 use Prim.Native.Nat.{ℕ}
 use lib.Dec.{eqb}
-use lib.ListN.{replicate}
-use Rattle.keys.specs.declared.traffic.TrafficKey.{TrafficKey}
+use Rattle.keys.specs.Traffic.{noKey}
 use Rattle.association.specs.declared.record.Assoc.{Assoc}
 use Rattle.association.specs.declared.search.Probe.{Probe}
 use Rattle.association.specs.declared.search.Probe.the-variants.{OfSaid, OutOfLimits, OfOneOf}
@@ -17,11 +16,8 @@ hitOf (OfSaid said) a = eqb (a .said) said
 hitOf (OutOfLimits half clock) a = not (recordFits half clock a)
 hitOf (OfOneOf count s₀ s₁ s₂ s₃) a = namesOf count s₀ s₁ s₂ s₃ (a .said)
 
-abbrev pub blankKey : TrafficKey
-blankKey = record { number = record { 0 = 0 }; deadline = 0; tek = replicate 16 0; vector = replicate 16 0 }
-
 abbrev pub blank : Assoc
-blank = record { said = 0; suite = 0; older = blankKey; newer = blankKey }
+blank = record { said = 0; suite = 0; older = noKey; newer = noKey }
 
 abbrev pub foundAt : ℕ → Assoc → Found
 foundAt at a = record { found = true; at = at; held = a }

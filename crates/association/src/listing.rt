@@ -2,7 +2,7 @@
 ghost use mathlib.Core.Path.{_≡_};
 ghost use Prim.Native.Nat.{_+_, _≤_, _<_};
 ghost use lib.ListN.{length};
-ghost use Rattle.association.specs.Listing.{Listable, listedOf, namesOf};
+ghost use Rattle.association.specs.Listing.{Listable, noListing, listedOf, namesOf};
 use crate::mint::mint;
 use crate::record::Assoc;
 use keys::numbers::TekNumber;
@@ -14,6 +14,19 @@ pub struct Listing {
     pub count: usize,
     pub saids: [u16; 4],
     pub suites: [u16; 4],
+}
+
+// A listing that names nothing.
+pub fn no_listing() -> Listing
+    ensures { λ r. ⌜ r ≡ noListing ⌝ }
+{
+    let saids = [0u16; 4];
+    let suites = [0u16; 4];
+    Listing {
+        count: 0,
+        saids: saids,
+        suites: suites,
+    }
 }
 
 // Whether `said` is one of the first `count` of four.

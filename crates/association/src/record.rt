@@ -1,6 +1,7 @@
 // The record of an association, and its limits (question 1).
 ghost use mathlib.Core.Path.{_≡_};
-ghost use Rattle.association.specs.Record.{saidFits, recordFits, deadlinesFit};
+ghost use Rattle.keys.specs.Addresses.{saidFits};
+ghost use Rattle.association.specs.Record.{recordFits, deadlinesFit};
 use keys::suites::suite_known;
 use keys::suites::width;
 use keys::traffic::TrafficKey;

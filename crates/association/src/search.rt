@@ -1,11 +1,10 @@
 // What a search over the records looks for, and what it hands back.
 ghost use mathlib.Core.Path.{_≡_};
-ghost use Rattle.association.specs.Search.{hitOf, blankKey, foundAt, missedAt};
+ghost use Rattle.association.specs.Search.{hitOf, foundAt, missedAt};
 use crate::listing::is_named;
 use crate::record::Assoc;
 use crate::record::record_fits;
-use keys::numbers::TekNumber;
-use keys::traffic::TrafficKey;
+use keys::traffic::no_key;
 
 // A record of one SAID; a record out of its limits for a half lifetime and a clock; a record of one of the first few of four SAIDs.
 pub enum Probe {
@@ -43,22 +42,10 @@ pub fn found_at(at: usize, a: Assoc) -> Found
     }
 }
 
-fn blank_key() -> TrafficKey
-    ensures { λ r. ⌜ r ≡ blankKey ⌝ }
-{
-    let zeros = [0u8; 16];
-    TrafficKey {
-        number: TekNumber(0),
-        deadline: 0,
-        tek: zeros,
-        vector: zeros,
-    }
-}
-
 pub fn missed_at(at: usize) -> Found
     ensures { λ r. ⌜ r ≡ missedAt at ⌝ }
 {
-    let key = blank_key();
+    let key = no_key();
     let record = Assoc {
         said: 0,
         suite: 0,

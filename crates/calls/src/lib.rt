@@ -1,6 +1,9 @@
 // A call of either end as a value: what a program that is told of calls reads, and what is applied to both ends. The octets that a call
-// brings are lent beside it. There is no code here.
+// brings are lent beside it.
+ghost use mathlib.Core.Path.{_≡_};
+ghost use Rattle.calls.specs.Calls.{plain};
 use association::listing::Listing;
+use association::listing::no_listing;
 use keys::numbers::TekNumber;
 
 // Which call it is: a listing, the clock at both ends, the modem's own two, a message to the head-end and one to the modem, a sealing at the
@@ -28,4 +31,21 @@ pub struct Call {
     pub said: u16,
     pub number: TekNumber,
     pub listing: Listing,
+}
+
+// A call with no listing.
+pub fn plain_call(kind: Kind, address: u64, word: u8, second: u64, said: u16, number: u8) -> Call
+    ensures { λ r. ⌜ r ≡ plain kind address word second said number ⌝ }
+{
+    let listing = no_listing();
+    let tek = TekNumber(number);
+    Call {
+        kind: kind,
+        address: address,
+        word: word,
+        second: second,
+        said: said,
+        number: tek,
+        listing: listing,
+    }
 }

@@ -5,7 +5,10 @@ use Rattle.wire.proofs.Vectors.{read-I6, number-103, number-107}
 use Rattle.machines.specs.declared.tek.Tek.{Tek}
 use Rattle.machines.specs.declared.tek.TekMoment.{TekMoment}
 use Rattle.machines.specs.Transitions.{C, D, F, nextIn, tekTransitions, authorizationTransitions}
-use Rattle.machines.specs.Tek.{noPair, nothing, tekStays, tekStepOf, tekMoved, tekSends, pairAfter}
+use Rattle.machines.specs.Tek.{noPair, nothing, tekStays, tekStepOf, tekMoved, tekSends, identifierAfter, pairAfter}
+use Rattle.authorization_machine.specs.declared.authorization.Authorization.{Authorization}
+use Rattle.authorization_machine.specs.declared.authorization.AuthMoment.{AuthMoment}
+use Rattle.authorization_machine.specs.Authorization.{authIdentifier, requestsOf, authMoved, authStepOf}
 use Rattle.association.specs.Roll.{rolledOf}
 use Rattle.association.specs.Listing.{freshOf}
 use Rattle.edges.specs.Edges.{Edges}
@@ -26,6 +29,18 @@ in-f-sends : (t : Tek) (x : TekMoment) (older newer : Params) → t .state ≡ F
 unfolding tekStepOf tekMoved tekSends nextIn tekTransitions
 in-f-sends t x older newer e = simp e
 
+in-c : (a : Authorization) (x : AuthMoment) → a .state ≡ C → authStepOf a 7 x .machine .state ≡ D
+unfolding authStepOf authMoved nextIn authorizationTransitions
+in-c a x e = simp e
+
+key-after : (t : Tek) (x : TekMoment) (older newer : Params) → t .state ≡ D → x .counter ≡ 255 → tekStepOf t 7 x older newer .sends .identifier ≡ 0
+unfolding tekStepOf tekMoved tekSends identifierAfter nextIn tekTransitions
+key-after t x older newer e full = simp (e, full)
+
+auth-after : (a : Authorization) (x : AuthMoment) → a .state ≡ C → x .counter ≡ 255 → authStepOf a 6 x .requests .identifier ≡ 0
+unfolding authStepOf authMoved requestsOf authIdentifier nextIn authorizationTransitions
+auth-after a x e full = simp (e, full)
+
 pub edges : Edges
 unfolding rolledOf freshOf nextIn authorizationTransitions
 edges =
@@ -43,11 +58,14 @@ edges =
       sixteenth-record-number = λ s k m. refl;
       sixteenth-number = λ s k m. refl;
       invalid-in-c = refl;
+      invalid-in-c-step = in-c;
       reply-in-d = in-d;
       invalid-in-f = in-f;
       invalid-in-f-keys = in-f-keys;
       invalid-in-f-sends = in-f-sends;
       identifier-255 = refl;
+      identifier-255-key = key-after;
+      identifier-255-auth = auth-after;
       reply-i6 = read-I6;
       reply-length-103 = number-103;
       reply-107-octets = number-107;

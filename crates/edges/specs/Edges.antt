@@ -13,9 +13,11 @@ use Rattle.wire.specs.Vectors.{replyI6, fieldsI6}
 use Rattle.machines.specs.declared.tek.Tek.{Tek}
 use Rattle.machines.specs.declared.tek.TekMoment.{TekMoment}
 use Rattle.machines.specs.Identifier.{nextIdentifier}
+use Rattle.authorization_machine.specs.declared.authorization.Authorization.{Authorization}
+use Rattle.authorization_machine.specs.declared.authorization.AuthMoment.{AuthMoment}
+use Rattle.authorization_machine.specs.Authorization.{authStepOf}
 use Rattle.machines.specs.Tek.{noPair, nothing, tekStays, tekStepOf}
 use Rattle.machines.specs.Transitions.{C, D, F, authorizationNext}
-use Rattle.keys.specs.declared.traffic.TrafficKey.{TrafficKey}
 use Rattle.association.specs.declared.record.Assoc.{Assoc}
 use Rattle.association.specs.Roll.{rolledOf}
 use Rattle.association.specs.Listing.{freshOf}
@@ -71,16 +73,19 @@ pub record Edges : Type 0 where
   pub sixteenth-record-number : (s : SaidSuite) (k m : List ℕ)
       → rolledOf 900 13500 m 0 (holding s (generation s 14 11700 13500 k 0) (generation s 15 12600 14400 k 32)) .newer .number ≡ record { 0 = 0 }
   pub sixteenth-number : (s : SaidSuite) (k m : List ℕ) → keyOf (clocked m seconds (line s k) .newer) .number ≡ record { 0 = 0 }
-  -- C + Invalid: D
+  -- C + Invalid: D, by the matrix and by the machine's step
   pub invalid-in-c : authorizationNext 7 C ≡ D
+  pub invalid-in-c-step : (a : Authorization) (x : AuthMoment) → a .state ≡ C → authStepOf a 7 x .machine .state ≡ D
   -- Operational + Key Reply: unchanged, whatever the reply brings
   pub reply-in-d : (t : Tek) (x : TekMoment) (older newer : Params) → t .state ≡ D → tekStepOf t 8 x older newer ≡ tekStays t x
   -- F + TEK Invalid: C, keys gone; C is not B or E, so nothing is sent
   pub invalid-in-f : (t : Tek) (x : TekMoment) (older newer : Params) → t .state ≡ F → tekStepOf t 5 x older newer .machine .state ≡ C
   pub invalid-in-f-keys : (t : Tek) (x : TekMoment) (older newer : Params) → t .state ≡ F → tekStepOf t 5 x older newer .machine .pair ≡ noPair
   pub invalid-in-f-sends : (t : Tek) (x : TekMoment) (older newer : Params) → t .state ≡ F → tekStepOf t 5 x older newer .sends ≡ nothing
-  -- Identifier 255, then 0
+  -- Identifier 255, then 0: by the counter's rule, and in the Key Request and the Authorization Request that come after 255
   pub identifier-255 : nextIdentifier 255 ≡ 0
+  pub identifier-255-key : (t : Tek) (x : TekMoment) (older newer : Params) → t .state ≡ D → x .counter ≡ 255 → tekStepOf t 7 x older newer .sends .identifier ≡ 0
+  pub identifier-255-auth : (a : Authorization) (x : AuthMoment) → a .state ≡ C → x .counter ≡ 255 → authStepOf a 6 x .requests .identifier ≡ 0
   -- the Key Reply of I.6: Identifier 115, authorization key 7, SAID 8,800, numbers 2 and 3, lives 43,200 and 86,400
   pub reply-i6 : readOf Modem replyI6 ≡ record { answer = Done; fields = fieldsI6; key = noPlace; digest = record { start = 88; len = 20 } }
   -- with Length 103: 8

@@ -8,11 +8,11 @@ use Rattle.keys.specs.Octets.{overlay}
 use Rattle.keys.specs.Refusal.{answerNumber}
 use Rattle.keys.specs.Settings.{noSettings, settingsFit, tekTimesFit, lifeFits}
 use Rattle.association.specs.declared.record.Assoc.{Assoc}
-use Rattle.headend_steps.specs.declared.state.Called.{Called}
-use Rattle.headend_steps.specs.declared.state.HeadEnd.{HeadEnd}
-use Rattle.headend_steps.specs.declared.frames.OpenedCall.{OpenedCall}
-use Rattle.headend_steps.specs.State.{freshOf}
-use Rattle.headend_steps.specs.Limits.{headFits}
+use Rattle.headend_state.specs.declared.state.Called.{Called}
+use Rattle.headend_state.specs.declared.state.HeadEnd.{HeadEnd}
+use Rattle.headend_frames.specs.declared.frames.OpenedCall.{OpenedCall}
+use Rattle.headend_state.specs.State.{freshOf}
+use Rattle.headend_limits.specs.Limits.{headFits}
 use Rattle.headend_steps.specs.Receive.{receiveAnswer, receiveWritten as receiveWritten₀}
 use Rattle.headend.specs.Calls.{receiveOf, receiveOctets}
 use Rattle.firmware.specs.declared.headend_calls.HeadEndCall.{HeadEndCall}

@@ -1,5 +1,3 @@
-pub mod FrameLaws
-pub mod LayoutLaws
 pub mod ModemCallLaws
 pub mod HeadEndCallLaws
 pub mod ReadLaws

@@ -19,7 +19,7 @@ use Rattle.wire.proofs.MessageAnswers.{read-answer}
 use Rattle.keys.specs.Put.{Put}
 use Rattle.keys.proofs.StoreLaws.{put-whole}
 use Rattle.keys.proofs.AnswerLaws.{refusal-number}
-use Rattle.firmware.specs.Layout.{readingOctets}
+use Rattle.layout.specs.Layout.{readingOctets}
 use Rattle.firmware.specs.Read.{receiverAt, readQuestions, Call, callFor, readCallOf, Answers}
 
 pub not-head-end : (n : ℕ) → (n ≡ 0 → ⊥) → Modem ≡ receiverAt n

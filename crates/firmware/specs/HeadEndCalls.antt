@@ -1,15 +1,16 @@
 -- The head-end for C: what its calls hand back, with document 01's number for the answer.
-use mathlib.Core.Bool.{Bool, cond}
+use mathlib.Core.Bool.{cond}
 use mathlib.Core.List.{List, []}
 use Prim.Native.Nat.{ℕ}
 use lib.Dec.{leb, eqb}
-use Rattle.keys.specs.Refusal.{answerNumber}
+use Rattle.keys.specs.declared.refusal.Refusal.the-variants.{OutOfLimits}
+use Rattle.keys.specs.Refusal.{numberOf, answerNumber}
 use Rattle.keys.specs.Settings.{noSettings}
 use Rattle.association.specs.declared.record.Assoc.{Assoc}
-use Rattle.headend_steps.specs.declared.state.Called.{Called}
-use Rattle.headend_steps.specs.declared.state.HeadEnd.{HeadEnd}
-use Rattle.headend_steps.specs.declared.frames.OpenedCall.{OpenedCall}
-use Rattle.headend_steps.specs.State.{freshOf}
+use Rattle.headend_state.specs.declared.state.Called.{Called}
+use Rattle.headend_state.specs.declared.state.HeadEnd.{HeadEnd}
+use Rattle.headend_frames.specs.declared.frames.OpenedCall.{OpenedCall}
+use Rattle.headend_state.specs.State.{freshOf}
 use Rattle.headend.specs.Calls.{receiveOf, receiveOctets}
 use Rattle.firmware.specs.declared.headend_calls.HeadEndCall.{HeadEndCall}
 use Rattle.firmware.specs.declared.headend_calls.HeadEndOpening.{HeadEndOpening}
@@ -19,7 +20,7 @@ headEndCall c = record { number = answerNumber (c .answer); count = c .count; he
 
 -- A digest word other than 0 and 1 is out of the limits (1): nothing is changed or written
 abbrev pub receivedOf : HeadEnd → ℕ → Called → HeadEndCall
-receivedOf h digest c = cond (leb digest 1) (headEndCall c) (record { number = 1; count = 0; headend = h })
+receivedOf h digest c = cond (leb digest 1) (headEndCall c) (record { number = numberOf OutOfLimits; count = 0; headend = h })
 
 abbrev pub receiveCall : HeadEnd → List Assoc → ℕ → ℕ → List ℕ → List ℕ → ℕ → HeadEndCall
 receiveCall h xs address digest s key lent = receivedOf h digest (receiveOf h xs address (eqb digest 1) s key lent)

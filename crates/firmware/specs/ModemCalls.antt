@@ -4,10 +4,11 @@ use mathlib.Core.List.{List, []}
 use Prim.Native.Nat.{ℕ}
 use lib.Dec.{leb, eqb}
 use Rattle.keys.specs.declared.sealing.SealedCall.{SealedCall}
-use Rattle.keys.specs.Refusal.{answerNumber}
+use Rattle.keys.specs.declared.refusal.Refusal.the-variants.{OutOfLimits}
+use Rattle.keys.specs.Refusal.{numberOf, answerNumber}
 use Rattle.modem_steps.specs.declared.state.Called.{Called}
 use Rattle.modem_steps.specs.declared.state.Modem.{Modem}
-use Rattle.modem.specs.declared.frames.OpenedCall.{OpenedCall}
+use Rattle.modem_frames.specs.declared.frames.OpenedCall.{OpenedCall}
 use Rattle.modem.specs.Calls.{receiveOf}
 use Rattle.firmware.specs.declared.modem_calls.ModemCall.{ModemCall}
 use Rattle.firmware.specs.declared.modem_calls.FrameSealed.{FrameSealed}
@@ -19,7 +20,7 @@ modemCall c = record { number = answerNumber (c .answer); count = c .count; mode
 -- A digest word other than 0 and 1 is out of the limits (1): nothing is changed or written
 abbrev pub receiveCall : Modem → List ℕ → ℕ → ℕ → ModemCall
 receiveCall m s digest lent =
-    cond (leb digest 1) (modemCall (receiveOf m s (eqb digest 1) lent .called)) (record { number = 1; count = 0; modem = m })
+    cond (leb digest 1) (modemCall (receiveOf m s (eqb digest 1) lent .called)) (record { number = numberOf OutOfLimits; count = 0; modem = m })
 
 abbrev pub receiveWritten : Modem → List ℕ → ℕ → ℕ → List ℕ
 receiveWritten m s digest lent = cond (leb digest 1) (receiveOf m s (eqb digest 1) lent .written) []

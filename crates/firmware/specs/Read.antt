@@ -13,7 +13,7 @@ use Rattle.wire.specs.declared.fields.Receiver.{Receiver}
 use Rattle.wire.specs.declared.fields.Receiver.the-variants.{HeadEnd, Modem}
 use Rattle.wire.specs.Messages.{messageQuestions}
 use Rattle.wire.specs.Reading.{readOf}
-use Rattle.firmware.specs.Layout.{readingOctets}
+use Rattle.layout.specs.Layout.{readingOctets}
 
 -- 0 is the head-end, 1 the modem; another is refused
 abbrev pub receiverAt : ℕ → Receiver

@@ -11,7 +11,7 @@ use Rattle.wire.specs.declared.fields.Fields.{Fields}
 use Rattle.wire.specs.Limits.{fieldsFit}
 use Rattle.wire.specs.Writing.{messageOf, noDigest, writeQuestions}
 use Rattle.firmware.specs.declared.write.Written.{Written}
-use Rattle.firmware.specs.Layout.{fieldsFrom}
+use Rattle.layout.specs.Layout.{fieldsFrom}
 use Rattle.firmware.specs.Read.{Call, callFor}
 
 -- Question 1 of the fields, question 2 of how many octets they stand in, then those of the writer

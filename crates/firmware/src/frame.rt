@@ -1,60 +1,7 @@
-// The frame decision for C: which of a held pair's keys opens a frame, with its TEK and vector.
-ghost use mathlib.Core.Path.{_≡_};
+// The frame decision for C.
 ghost use lib.ListN.{length};
-ghost use Rattle.firmware.specs.Frame.{frameFits, slicesFit, isHeld, chosenOf, frameOf, Gives};
-use keys::frame::Opening;
-use keys::frame::decide;
-use keys::numbers::TekNumber;
-use keys::numbers::tek_in_range;
-use keys::octets::put;
-use keys::suites::width_known;
-use keys::traffic::TrafficKey;
-use keys::traffic::key_from;
-use keys::traffic::pair_fits;
-
-// Question 1.
-fn frame_fits(
-    clock: u64,
-    older: TrafficKey,
-    newer: TrafficKey,
-    width: usize,
-    number: TekNumber,
-) -> bool
-    ensures { λ r. ⌜ r ≡ frameFits clock older newer width number ⌝ }
-{
-    (clock <= 1000000000000)
-        & width_known(width)
-        & tek_in_range(number)
-        & pair_fits(older, newer, width, clock)
-}
-
-// Question 2.
-fn slices_fit(keys: usize, tek: usize, vector: usize) -> bool
-    ensures { λ r. ⌜ r ≡ slicesFit keys tek vector ⌝ }
-{
-    (keys == 64) & (16 <= tek) & (16 <= vector)
-}
-
-// Question 13.
-fn is_held(by: Opening) -> bool
-    ensures { λ r. ⌜ r ≡ isHeld by ⌝ }
-{
-    match by {
-        Opening::ByOlder => true,
-        Opening::ByNewer => true,
-        Opening::ByNeither => false,
-    }
-}
-
-fn chosen(by: Opening, older: TrafficKey, newer: TrafficKey) -> TrafficKey
-    ensures { λ r. ⌜ r ≡ chosenOf by older newer ⌝ }
-{
-    match by {
-        Opening::ByOlder => older,
-        Opening::ByNewer => newer,
-        Opening::ByNeither => older,
-    }
-}
+ghost use Rattle.frame_decision.specs.Frame.{frameOf, Gives};
+use frame_decision::frame::frame_decision;
 
 // The key of `keys` that opens a frame numbered `number` at `clock`: its first `width` octets of TEK and of vector go to the front
 // of `tek` and `vector`, and the answer is 0. `keys` has 64 octets: TEK and vector of the older, then of the newer, 16 for each.
@@ -75,22 +22,16 @@ pub extern "C" fn curlewreel_frame(
     ensures { λ r. ⌜ Gives (frameOf clock «older_number» «older_deadline» «newer_number» «newer_deadline» width (now (keys .entry)) number
         (length (now (tek .entry))) (length (now (vector .entry)))) (now (tek .entry)) (now (vector .entry)) r (now (tek .exit)) (now (vector .exit)) ⌝ }
 {
-    let older = key_from(keys, 0, 16, TekNumber(older_number), older_deadline);
-    let newer = key_from(keys, 32, 16, TekNumber(newer_number), newer_deadline);
-    if !frame_fits(clock, older, newer, width, TekNumber(number)) {
-        return 1;
-    }
-    if !slices_fit(keys.len(), tek.len(), vector.len()) {
-        return 2;
-    }
-    let by = decide(older, newer, TekNumber(number), clock);
-    if !is_held(by) {
-        return 13;
-    }
-    let key = chosen(by, older, newer);
-    let key_tek = key.tek;
-    let key_vector = key.vector;
-    put(key_tek, width, tek);
-    put(key_vector, width, vector);
-    0
+    frame_decision(
+        clock,
+        older_number,
+        older_deadline,
+        newer_number,
+        newer_deadline,
+        width,
+        keys,
+        number,
+        tek,
+        vector,
+    )
 }

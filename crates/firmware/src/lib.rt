@@ -3,7 +3,6 @@
 // every lent octet, for refused input too. include/curlewreel.h declares them.
 pub mod frame;
 pub mod headend_calls;
-pub mod layout;
 pub mod modem_calls;
 pub mod read;
 pub mod write;

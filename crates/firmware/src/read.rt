@@ -2,8 +2,8 @@
 ghost use mathlib.Core.Path.{_≡_};
 ghost use lib.ListN.{length};
 ghost use Rattle.firmware.specs.Read.{receiverAt, readCallOf, Answers};
-use crate::layout::put_reading;
 use keys::refusal::answer_number;
+use layout::layout::put_reading;
 use reader::read::read;
 use wire::fields::Receiver;
 

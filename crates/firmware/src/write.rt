@@ -1,10 +1,10 @@
 // The writing of a message for C: its fields come in octets, as specs/Layout.antt says.
 ghost use lib.ListN.{length};
 ghost use Rattle.firmware.specs.Write.{writeCallOf, Writes};
-use crate::layout::fields_from;
 use keys::refusal::answer_number;
-use writer::limits::fields_fit;
+use layout::layout::fields_from;
 use writer::write::write;
+use writer_limits::limits::fields_fit;
 
 // The answer, and how many octets were written.
 #[repr(C)]

@@ -17,18 +17,18 @@ use Rattle.wire.specs.Fields.{noFields}
 use Rattle.wire.specs.Reading.{readOf}
 use Rattle.records.specs.Records.{none, firstOf, lookupOf}
 use Rattle.records.proofs.RecordsLaws.{first-is-hit}
-use Rattle.headend_steps.specs.declared.state.AuthKeys.{AuthKeys}
-use Rattle.headend_steps.specs.declared.state.HeadEnd.{HeadEnd}
-use Rattle.headend_steps.specs.declared.entries.Known.{Known}
-use Rattle.headend_steps.specs.declared.answers.Reaction.{Reaction}
-use Rattle.headend_steps.specs.Authorization.{isActive, withKey, keysFor}
-use Rattle.headend_steps.specs.Entries.{lists, listsSuite, knownOf, withEntry}
-use Rattle.headend_steps.specs.Search.{halfIn, ofRequest}
-use Rattle.headend_steps.specs.Answers.{reject, invalid, keyReject, keyReply, replyAnswer, keyAnswer, keysAfter, withKeys, stateAfter, requestReaction}
+use Rattle.headend_state.specs.declared.state.AuthKeys.{AuthKeys}
+use Rattle.headend_state.specs.declared.state.HeadEnd.{HeadEnd}
+use Rattle.headend_state.specs.declared.entries.Known.{Known}
+use Rattle.headend_answers.specs.declared.answers.Reaction.{Reaction}
+use Rattle.headend_state.specs.Authorization.{isActive, withKey, keysFor}
+use Rattle.headend_state.specs.Entries.{lists, listsSuite, knownOf, withEntry}
+use Rattle.headend_limits.specs.Search.{halfIn, ofRequest}
+use Rattle.headend_answers.specs.Answers.{reject, invalid, keyReject, keyReply, replyAnswer, keyAnswer, keysAfter, withKeys, stateAfter, requestReaction}
 use Rattle.headend_steps.specs.Receive.{answerOctets}
-use Rattle.headend_steps.proofs.AnswersLaws.{key-unlisted, key-inactive, key-digest, key-foreign, key-granted, request-unlisted, request-barred, request-allowed, react-request, react-key, react-none}
+use Rattle.headend_answers.proofs.AnswersLaws.{key-unlisted, key-inactive, key-digest, key-foreign, key-granted, request-unlisted, request-barred, request-allowed, react-request, react-key, react-none}
 use Rattle.headend_steps.proofs.AnswerFits.{suits-reply}
-use Rattle.headend_steps.proofs.AuthorizationLaws.{none-active, one-active, two-active}
+use Rattle.headend_state.proofs.AuthorizationLaws.{none-active, one-active, two-active}
 use Rattle.headend.proofs.AnswersSent.{request, found, reaction, Takes, Sent, takes-asked, receive-done}
 
 -- ---- the record that a search finds

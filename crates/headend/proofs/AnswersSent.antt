@@ -18,13 +18,13 @@ use Rattle.wire.specs.Fields.{noFields}
 use Rattle.wire.specs.Reading.{readOf}
 use Rattle.wire.specs.Writing.{messageOf, noDigest}
 use Rattle.records.specs.Records.{firstOf, lookupOf}
-use Rattle.headend_steps.specs.declared.state.HeadEnd.{HeadEnd}
-use Rattle.headend_steps.specs.declared.state.Called.{Called}
-use Rattle.headend_steps.specs.declared.entries.Known.{Known}
-use Rattle.headend_steps.specs.declared.answers.Reaction.{Reaction}
-use Rattle.headend_steps.specs.Search.{outOfLimits, ofRequest}
-use Rattle.headend_steps.specs.Entries.{knownOf}
-use Rattle.headend_steps.specs.Answers.{reject, replyAnswer, keyReply, keysAfter, keyAnswer, requestAnswer, requestReaction, reactionOf}
+use Rattle.headend_state.specs.declared.state.HeadEnd.{HeadEnd}
+use Rattle.headend_state.specs.declared.state.Called.{Called}
+use Rattle.headend_state.specs.declared.entries.Known.{Known}
+use Rattle.headend_answers.specs.declared.answers.Reaction.{Reaction}
+use Rattle.headend_limits.specs.Search.{outOfLimits, ofRequest}
+use Rattle.headend_state.specs.Entries.{knownOf}
+use Rattle.headend_answers.specs.Answers.{reject, replyAnswer, keyReply, keysAfter, keyAnswer, requestAnswer, requestReaction, reactionOf}
 use Rattle.headend_steps.specs.Receive.{answerOctets, receiveAnswer, calledFor, reactionTo, receiveCalled}
 use Rattle.headend_steps.proofs.AskedLaws.{ReceiveAsked, receive-asked}
 use Rattle.headend_steps.proofs.AnswerFields.{key-reply-most}

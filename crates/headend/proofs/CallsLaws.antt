@@ -19,12 +19,12 @@ use Rattle.association.specs.Record.{recordFits}
 use Rattle.association.proofs.RecordLaws.{rollable}
 use Rattle.records.specs.Records.{none, firstOf, storedAt, rolledTo, StoreFit, RollFit}
 use Rattle.records.proofs.RecordsLaws.{passed-hit}
-use Rattle.headend_steps.specs.declared.state.HeadEnd.{HeadEnd}
-use Rattle.headend_steps.specs.Search.{halfIn, outOfLimits, oneOf}
+use Rattle.headend_state.specs.declared.state.HeadEnd.{HeadEnd}
+use Rattle.headend_limits.specs.Search.{halfIn, outOfLimits, oneOf}
 use Rattle.headend_steps.specs.Listing.{listAnswer, listFor, listCalled}
 use Rattle.headend_steps.specs.Clock.{clockAnswer, clockFor, clockCalled}
-use Rattle.headend_steps.proofs.ListingLaws.{listing-facts}
-use Rattle.headend_steps.proofs.LimitsLaws.{head-facts}
+use Rattle.headend_limits.proofs.ListingLaws.{listing-facts}
+use Rattle.headend_limits.proofs.LimitsLaws.{head-facts}
 use Rattle.headend_steps.proofs.AskedLaws.{ListAsked, list-asked, ClockAsked, clock-asked}
 use Rattle.headend.specs.Calls.{recordsFor, listOf, listRecords, clockOf, clockRecords}
 

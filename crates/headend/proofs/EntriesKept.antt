@@ -14,12 +14,13 @@ use borrow.Author.Tests.{le-leb}
 use Rattle.keys.proofs.TestLaws.{both}
 use Rattle.keys.proofs.ListLaws.{IfLt, if-lt}
 use Rattle.association.specs.declared.listing.Listing.{Listing}
-use Rattle.headend_steps.specs.declared.state.AuthKeys.{AuthKeys}
-use Rattle.headend_steps.specs.declared.state.Entry.{Entry}
-use Rattle.headend_steps.specs.State.{noKeys, noEntry}
-use Rattle.headend_steps.specs.Limits.{addressFits, listingFits, saidsDiffer, authKeysFit, entryFits, isApart, allApart, entriesFrom}
-use Rattle.headend_steps.specs.Answers.{withKeys}
-use Rattle.headend_steps.proofs.LimitsLaws.{keys-by, later-fits, entry-facts}
+use Rattle.headend_state.specs.declared.state.AuthKeys.{AuthKeys}
+use Rattle.headend_state.specs.declared.state.Entry.{Entry}
+use Rattle.headend_state.specs.State.{noKeys, noEntry}
+use Rattle.keys.specs.Addresses.{addressFits}
+use Rattle.headend_limits.specs.Limits.{listingFits, saidsDiffer, authKeysFit, entryFits, isApart, allApart, entriesFrom}
+use Rattle.headend_answers.specs.Answers.{withKeys}
+use Rattle.headend_limits.proofs.LimitsLaws.{keys-by, later-fits, entry-facts}
 
 -- ---- an entry
 pub none-fit : (life clock : ℕ) → authKeysFit life clock noKeys ≡ true

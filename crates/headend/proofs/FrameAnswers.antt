@@ -23,15 +23,15 @@ use Rattle.wire.specs.Messages.{codeOf}
 use Rattle.wire.specs.Reading.{readOf}
 use Rattle.wire.specs.Writing.{message, messageOf, noDigest}
 use Rattle.records.specs.Records.{none, firstOf, lookupOf}
-use Rattle.headend_steps.specs.declared.state.HeadEnd.{HeadEnd}
-use Rattle.headend_steps.specs.declared.entries.Known.{Known}
-use Rattle.headend_steps.specs.Entries.{knownOf}
-use Rattle.headend_steps.specs.Limits.{headFits}
-use Rattle.headend_steps.specs.Search.{halfIn, outOfLimits}
-use Rattle.headend_steps.specs.Frames.{withCounts, countedBy, invalidFields, invalidOctets, openAnswer, openedFor, openedWith}
-use Rattle.headend_steps.specs.Answers.{reject, replyAnswer, keyReply, keysAfter, keyAnswer, requestAnswer, requestReaction, reactionOf}
+use Rattle.headend_state.specs.declared.state.HeadEnd.{HeadEnd}
+use Rattle.headend_state.specs.declared.entries.Known.{Known}
+use Rattle.headend_state.specs.Entries.{knownOf}
+use Rattle.headend_limits.specs.Limits.{headFits}
+use Rattle.headend_limits.specs.Search.{halfIn, outOfLimits}
+use Rattle.headend_frames.specs.Frames.{withCounts, countedBy, invalidFields, invalidOctets, openAnswer, openedFor, openedWith}
+use Rattle.headend_answers.specs.Answers.{reject, replyAnswer, keyReply, keysAfter, keyAnswer, requestAnswer, requestReaction, reactionOf}
 use Rattle.headend_steps.specs.Receive.{answerOctets, receiveAnswer, writtenFor, receiveCalled, receiveWritten}
-use Rattle.headend_steps.proofs.LimitsLaws.{head-facts}
+use Rattle.headend_limits.proofs.LimitsLaws.{head-facts}
 use Rattle.headend_steps.proofs.AnswerFits.{Replied, active-small, by-key-answer}
 use Rattle.headend_steps.proofs.AnswersRead.{ShapedRecord, readBack, key-reply-read}
 use Rattle.headend.specs.Calls.{receiveOctets}

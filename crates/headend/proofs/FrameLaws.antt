@@ -26,15 +26,16 @@ use Rattle.keys.proofs.AnswerLaws.{done-met}
 use Rattle.association.specs.declared.record.Assoc.{Assoc}
 use Rattle.association.specs.declared.search.Found.{Found}
 use Rattle.association.specs.declared.search.Probe.the-variants.{OfSaid}
-use Rattle.association.specs.Record.{saidFits, recordFits}
+use Rattle.keys.specs.Addresses.{saidFits, addressFits}
+use Rattle.association.specs.Record.{recordFits}
 use Rattle.association.proofs.RecordLaws.{InLimits, limits-of}
 use Rattle.records.specs.Records.{none, firstOf, lookupOf}
 use Rattle.records.proofs.RecordsLaws.{first-is-hit}
-use Rattle.headend_steps.specs.declared.state.HeadEnd.{HeadEnd}
-use Rattle.headend_steps.specs.Entries.{knownOf, listsSuite}
-use Rattle.headend_steps.specs.Limits.{addressFits, headFits}
-use Rattle.headend_steps.specs.Search.{halfIn, outOfLimits, recordsFit, foundSuits}
-use Rattle.headend_steps.specs.Frames.{isOwn, heldSuits, frameFits, sealAnswer, sealedWith, openAnswer, HeadOpened, openedFor, openedWith}
+use Rattle.headend_state.specs.declared.state.HeadEnd.{HeadEnd}
+use Rattle.headend_state.specs.Entries.{knownOf, listsSuite}
+use Rattle.headend_limits.specs.Limits.{headFits}
+use Rattle.headend_limits.specs.Search.{halfIn, outOfLimits, recordsFit, foundSuits}
+use Rattle.headend_frames.specs.Frames.{isOwn, heldSuits, frameFits, sealAnswer, sealedWith, openAnswer, HeadOpened, openedFor, openedWith}
 use Rattle.headend.specs.FrameCalls.{sealOf, openOf}
 use Rattle.headend.specs.Within.{Within, Recorded}
 use Rattle.headend.proofs.WithinLaws.{within-fits}

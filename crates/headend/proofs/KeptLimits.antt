@@ -22,19 +22,19 @@ use Rattle.wire.specs.Fields.{noFields}
 use Rattle.wire.specs.Reading.{readOf}
 use Rattle.records.specs.Records.{firstOf, lookupOf, rolledTo, storedAt}
 use Rattle.records.proofs.RecordsLaws.{roll-length, store-length}
-use Rattle.headend_steps.specs.declared.state.Entry.{Entry}
-use Rattle.headend_steps.specs.declared.state.HeadEnd.{HeadEnd}
-use Rattle.headend_steps.specs.declared.entries.Known.{Known}
-use Rattle.headend_steps.specs.State.{noKeys, noEntry, withClock}
-use Rattle.headend_steps.specs.Entries.{entriesOf, knownOf}
-use Rattle.headend_steps.specs.Limits.{entriesFrom, headFits}
-use Rattle.headend_steps.specs.Search.{halfIn, outOfLimits, oneOf, ofRequest}
+use Rattle.headend_state.specs.declared.state.Entry.{Entry}
+use Rattle.headend_state.specs.declared.state.HeadEnd.{HeadEnd}
+use Rattle.headend_state.specs.declared.entries.Known.{Known}
+use Rattle.headend_state.specs.State.{noKeys, noEntry, withClock}
+use Rattle.headend_state.specs.Entries.{entriesOf, knownOf}
+use Rattle.headend_limits.specs.Limits.{entriesFrom, headFits}
+use Rattle.headend_limits.specs.Search.{halfIn, outOfLimits, oneOf, ofRequest}
 use Rattle.headend_steps.specs.Listing.{listAnswer, listFor, listCalled, grown}
 use Rattle.headend_steps.specs.Clock.{clockAnswer, clockFor, clockCalled}
-use Rattle.headend_steps.specs.Answers.{withKeys, keysAfter, stateAfter, requestState, requestReaction, keyAnswer, reactionOf}
+use Rattle.headend_answers.specs.Answers.{withKeys, keysAfter, stateAfter, requestState, requestReaction, keyAnswer, reactionOf}
 use Rattle.headend_steps.specs.Receive.{receiveAnswer, calledFor, reactionTo, receiveCalled}
-use Rattle.headend_steps.proofs.ListingLaws.{listing-facts}
-use Rattle.headend_steps.proofs.LimitsLaws.{granted-fits, entry-facts, head-facts, known-place, known-in}
+use Rattle.headend_limits.proofs.ListingLaws.{listing-facts}
+use Rattle.headend_limits.proofs.LimitsLaws.{granted-fits, entry-facts, head-facts, known-place, known-in}
 use Rattle.headend_steps.proofs.AskedLaws.{ListAsked, list-asked, clock-asked}
 use Rattle.headend.specs.Calls.{recordsFor, newFor, newOf, listOf, listRecords, clockOf, clockRecords, receiveOf}
 use Rattle.headend.specs.Within.{Within}

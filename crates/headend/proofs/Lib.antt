@@ -10,9 +10,6 @@ pub mod StateLaws
 pub mod MintLaws
 pub mod FoundLaws
 pub mod ReplyLaws
-pub mod RunLaws
-pub mod RunShows
-pub mod SameSecond
-pub mod SameSecondRow
+pub mod SecondLaws
 pub mod FrameLaws
 pub mod FrameAnswers

@@ -8,24 +8,24 @@ use native.Mathlib.Omega.{arith}
 use lib.ListN.{length, take, drop, length-append, length-map, take-append-drop}
 use lib.Seq.{length-take-le, take-at}
 use Rattle.keys.specs.declared.refusal.Answer.{Answer}
-use Rattle.keys.specs.declared.refusal.Answer.the-variants.{Done, Refused}
-use Rattle.keys.specs.declared.refusal.Refusal.{Refusal}
+use Rattle.keys.specs.declared.refusal.Answer.the-variants.{Done}
 use Rattle.keys.specs.declared.settings.Settings.{Settings}
 use Rattle.keys.specs.Refusal.{answerNumber}
 use Rattle.keys.specs.Settings.{halfOf}
 use Rattle.association.specs.declared.listing.Listing.{Listing}
 use Rattle.association.specs.declared.record.Assoc.{Assoc}
-use Rattle.association.specs.Listing.{freshOf}
+use Rattle.association.specs.Listing.{freshOf as freshRecord}
 use Rattle.association.specs.Made.{Line, SaidSuite, listedLine, listedLines, linesTo, linesAfter, recordOf}
 use Rattle.association.proofs.RollLaws.{fresh-line}
 use Rattle.records.specs.Records.{listedRecords, storedAt, rolledTo}
 use Rattle.records.proofs.RecordsLaws.{roll-lines}
-use Rattle.headend_steps.specs.declared.state.HeadEnd.{HeadEnd}
-use Rattle.headend_steps.specs.Search.{halfIn}
+use Rattle.headend_state.specs.declared.state.HeadEnd.{HeadEnd}
+use Rattle.headend_state.specs.State.{freshOf}
+use Rattle.headend_limits.specs.Search.{halfIn}
 use Rattle.headend.specs.Calls.{recordsFor, listOf, listRecords, clockOf, clockRecords, receiveOf}
 use Rattle.headend.specs.Minting.{pairAt, pairsTo, namedPairs, acceptedList, acceptedClock}
 use Rattle.headend.proofs.CallsLaws.{list-met, clock-met}
-use Rattle.headend.proofs.StateLaws.{SameBase, list-state, list-stays, clock-state, clock-stays, receive-base}
+use Rattle.headend.proofs.StateLaws.{SameBase, list-state, clock-state, receive-base}
 
 -- ---- the records of a listing's first n places are those of the lines that the rule mints
 pairs-length : (l : Listing) (n : ℕ) → length (pairsTo l n) ≡ n
@@ -57,9 +57,9 @@ module _ (half t : ℕ) (m : List ℕ) where
       let ls = listedLines half t m 0 (pairsTo l n) in
       let here = pairAt l n in
       let place : n * 64 ≡ 0 + length (pairsTo l n) * 64 = omega (arith, pairs-length l n) in
-      let made : freshOf half t m (n * 64) (here .said) (here .suite) ≡ recordOf (listedLine half t m (0 + length (pairsTo l n) * 64) here)
-      = ap (λ (k : ℕ). freshOf half t m k (here .said) (here .suite)) place ∙ fresh-line half t m (0 + length (pairsTo l n) * 64) here in
-      ap (λ (xs : List Assoc). xs ++ (freshOf half t m (n * 64) (here .said) (here .suite) ∷ [])) (listed-lines l n)
+      let made : freshRecord half t m (n * 64) (here .said) (here .suite) ≡ recordOf (listedLine half t m (0 + length (pairsTo l n) * 64) here)
+      = ap (λ (k : ℕ). freshRecord half t m k (here .said) (here .suite)) place ∙ fresh-line half t m (0 + length (pairsTo l n) * 64) here in
+      ap (λ (xs : List Assoc). xs ++ (freshRecord half t m (n * 64) (here .said) (here .suite) ∷ [])) (listed-lines l n)
       ∙ ap (λ (x : Assoc). map recordOf ls ++ (x ∷ [])) made
       ∙ sym (map-append recordOf ls (listedLine half t m (0 + length (pairsTo l n) * 64) here ∷ []))
       ∙ ap (map recordOf) (sym (lines-snoc 0 (pairsTo l n) here))
@@ -136,15 +136,6 @@ module _ {half : ℕ} {h : HeadEnd} {xs : List Assoc} {ls : List Line} where
           as-many = many;
         })
 
-    -- a refused one changes nothing
-    pub list-shows-refused : (r : Refusal) → listOf h xs address allowed l m .answer ≡ Refused r
-        → Shows half (listOf h xs address allowed l m .state) (listRecords h xs address allowed l m) ls
-    list-shows-refused r e =
-        let kept : xs ≡ listRecords h xs address allowed l m
-        = ap (λ (a : Answer). recordsFor a (storedAt (h .used) (halfIn h) (h .clock) m l (l .count) xs) xs) (sym e) in
-        subst (λ (ys : List Assoc). Shows half (listOf h xs address allowed l m .state) ys ls) kept
-        (subst (λ (g : HeadEnd). Shows half g xs ls) (sym (list-stays h xs address allowed l m r e)) w)
-
   module _ (t : ℕ) (m : List ℕ) (w : Shows half h xs ls) where
     -- an accepted clock call takes each line on by the rule
     pub clock-shows : clockOf h xs t m .answer ≡ Done
@@ -161,9 +152,6 @@ module _ {half : ℕ} {h : HeadEnd} {xs : List Assoc} {ls : List Line} where
           as-many = many;
         })
 
-    -- a refused one changes nothing
-    pub clock-shows-refused : (r : Refusal) → clockOf h xs t m .answer ≡ Refused r → Shows half (clockOf h xs t m .state) (clockRecords h xs t m) ls
-    clock-shows-refused r e =
-        let kept : xs ≡ clockRecords h xs t m = ap (λ (a : Answer). recordsFor a (rolledTo (halfIn h) t m 0 (h .used) xs) xs) (sym e) in
-        subst (λ (ys : List Assoc). Shows half (clockOf h xs t m .state) ys ls) kept
-        (subst (λ (g : HeadEnd). Shows half g xs ls) (sym (clock-stays h xs t m r e)) w)
+-- a fresh head-end has no record in use
+pub fresh-shows : (settings : Settings) (xs : List Assoc) → Shows (halfOf (settings .tek)) (freshOf settings) xs []
+fresh-shows settings xs = record { half-is = refl; shown = refl; as-many = refl }

@@ -17,7 +17,7 @@ use Rattle.association.specs.Listing.{freshOf, listedOf}
 use Rattle.association.proofs.RecordLaws.{fits-by, fresh-limits, roll-fits}
 use Rattle.records.specs.Records.{none, rolledTo, listedRecords, storedAt}
 use Rattle.records.proofs.RecordsLaws.{listed-length}
-use Rattle.headend_steps.proofs.ListingLaws.{ListingIn}
+use Rattle.headend_limits.proofs.ListingLaws.{ListingIn}
 
 -- ---- the clock's rule
 pub rolled-at : (half t : ℕ) (m : List ℕ) (at n : ℕ) (xs : List Assoc) (i : ℕ) → i < n → n ≤ length xs

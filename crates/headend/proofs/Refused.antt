@@ -13,10 +13,10 @@ use Rattle.association.specs.declared.record.Assoc.{Assoc}
 use Rattle.wire.specs.declared.fields.Receiver.the-variants.{HeadEnd as AtHeadEnd}
 use Rattle.wire.specs.Reading.{readOf}
 use Rattle.records.specs.Records.{firstOf, lookupOf, rolledTo, storedAt}
-use Rattle.headend_steps.specs.declared.state.HeadEnd.{HeadEnd}
-use Rattle.headend_steps.specs.declared.state.Called.{Called}
-use Rattle.headend_steps.specs.declared.answers.Reaction.{Reaction}
-use Rattle.headend_steps.specs.Search.{halfIn, outOfLimits, oneOf, ofRequest}
+use Rattle.headend_state.specs.declared.state.HeadEnd.{HeadEnd}
+use Rattle.headend_state.specs.declared.state.Called.{Called}
+use Rattle.headend_answers.specs.declared.answers.Reaction.{Reaction}
+use Rattle.headend_limits.specs.Search.{halfIn, outOfLimits, oneOf, ofRequest}
 use Rattle.headend_steps.specs.Listing.{listAnswer, listFor, listCalled}
 use Rattle.headend_steps.specs.Clock.{clockAnswer, clockFor, clockCalled}
 use Rattle.headend_steps.specs.Receive.{receiveAnswer, calledFor, writtenFor, reactionTo, receiveCalled, receiveWritten}

@@ -18,12 +18,12 @@ use Rattle.wire.specs.Reading.{readOf}
 use Rattle.wire.specs.Ranges.{neededOf}
 use Rattle.wire.specs.Writing.{itemsOfType, itemsOfTypes, itemsOf, message, messageOf, noDigest}
 use Rattle.records.specs.Records.{firstOf, lookupOf}
-use Rattle.headend_steps.specs.declared.state.HeadEnd.{HeadEnd}
-use Rattle.headend_steps.specs.declared.entries.Known.{Known}
-use Rattle.headend_steps.specs.declared.answers.Reaction.{Reaction}
-use Rattle.headend_steps.specs.Entries.{knownOf}
-use Rattle.headend_steps.specs.Search.{outOfLimits, ofRequest}
-use Rattle.headend_steps.specs.Answers.{replyAnswer, keyReply, keyAnswer, reject, keysAfter, requestAnswer, reactionOf}
+use Rattle.headend_state.specs.declared.state.HeadEnd.{HeadEnd}
+use Rattle.headend_state.specs.declared.entries.Known.{Known}
+use Rattle.headend_answers.specs.declared.answers.Reaction.{Reaction}
+use Rattle.headend_state.specs.Entries.{knownOf}
+use Rattle.headend_limits.specs.Search.{outOfLimits, ofRequest}
+use Rattle.headend_answers.specs.Answers.{replyAnswer, keyReply, keyAnswer, reject, keysAfter, requestAnswer, reactionOf}
 use Rattle.headend_steps.specs.Receive.{receiveAnswer, answerOctets, calledFor, writtenFor, reactionTo, receiveCalled, receiveWritten}
 use Rattle.headend_steps.proofs.AskedLaws.{receive-asked}
 use Rattle.headend_steps.proofs.AnswerFits.{Replied, by-key-answer, reply-is, suits-reply}

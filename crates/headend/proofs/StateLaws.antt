@@ -1,4 +1,4 @@
--- The head-end's state after each call: what a listing and the clock make of it where they are accepted, that a refusal leaves it, and
+-- The head-end's state after each call: what a listing and the clock make of it where they are accepted, that a refused listing leaves it, and
 -- that a message leaves the settings, the clock and the number of records in use.
 use mathlib.Core.Path.{_≡_, refl, sym, ap}
 use mathlib.Core.Bool.{Bool, true, false, cond, not}
@@ -6,8 +6,6 @@ use mathlib.Core.List.{List}
 use Prim.Native.Nat.{ℕ}
 use lib.Dec.{eqb}
 use lib.ListN.{length}
-use borrow.Author.Tests.{eq-eqb, ne-eqb}
-use native.Mathlib.Omega.{arith}
 use Rattle.keys.specs.declared.refusal.Answer.{Answer}
 use Rattle.keys.specs.declared.refusal.Answer.the-variants.{Done, Refused}
 use Rattle.keys.specs.declared.refusal.Refusal.{Refusal}
@@ -20,22 +18,25 @@ use Rattle.wire.proofs.HoldsLaws.{never}
 use Rattle.association.specs.declared.listing.Listing.{Listing}
 use Rattle.association.specs.declared.record.Assoc.{Assoc}
 use Rattle.records.specs.Records.{firstOf, lookupOf}
-use Rattle.headend_steps.specs.declared.state.HeadEnd.{HeadEnd}
-use Rattle.headend_steps.specs.declared.entries.Known.{Known}
-use Rattle.headend_steps.specs.declared.answers.Reaction.{Reaction}
-use Rattle.headend_steps.specs.State.{withClock}
-use Rattle.headend_steps.specs.Entries.{knownOf}
-use Rattle.headend_steps.specs.Search.{outOfLimits, oneOf, ofRequest}
+use Rattle.headend_state.specs.declared.state.HeadEnd.{HeadEnd}
+use Rattle.headend_state.specs.declared.entries.Known.{Known}
+use Rattle.headend_answers.specs.declared.answers.Reaction.{Reaction}
+use Rattle.headend_state.specs.State.{withClock}
+use Rattle.headend_state.specs.Entries.{knownOf}
+use Rattle.headend_limits.specs.Search.{outOfLimits, oneOf, ofRequest}
 use Rattle.headend_steps.specs.Listing.{listAnswer, listFor, listCalled, grown}
 use Rattle.headend_steps.specs.Clock.{clockAnswer, clockFor, clockCalled}
-use Rattle.headend_steps.specs.Answers.{stateAfter, requestState, requestReaction, keyAnswer, reactionOf}
+use Rattle.headend_answers.specs.Answers.{stateAfter, requestState, requestReaction, keyAnswer, reactionOf}
 use Rattle.headend_steps.specs.Receive.{receiveAnswer, reactionTo, calledFor, receiveCalled}
-use Rattle.headend_steps.proofs.AnswersLaws.{react-key}
 use Rattle.headend.specs.Calls.{listOf, clockOf, receiveOf}
 
 -- ---- answers
 pub done-apart : {A : Type 0} (r : Refusal) → Refused r ≡ Done → A
 done-apart r e = never (ap isDone e)
+
+pub by-answer : (P : Type 0) (a : Answer) → (a ≡ Done → P) → ((r : Refusal) → a ≡ Refused r → P) → P
+by-answer P Done done refused = done refl
+by-answer P (Refused r) done refused = refused r refl
 
 -- ---- list
 module _ (h : HeadEnd) (xs : List Assoc) (address allowed : ℕ) (l : Listing) (m : List ℕ) where
@@ -70,14 +71,6 @@ module _ (h : HeadEnd) (xs : List Assoc) (t : ℕ) (m : List ℕ) where
       go : (a : Answer) → clockFor a h t .answer ≡ Done → clockFor a h t .state ≡ withClock h t
       go Done q = refl
       go (Refused r) q = done-apart r q
-
-  pub clock-stays : (r : Refusal) → clockOf h xs t m .answer ≡ Refused r → clockOf h xs t m .state ≡ h
-  unfolding clockCalled
-  clock-stays r e = go clockAsked e
-    where
-      go : (a : Answer) → clockFor a h t .answer ≡ Refused r → clockFor a h t .state ≡ h
-      go Done q = done-apart r (sym q)
-      go (Refused s) q = refl
 
 -- ---- receive
 pub record SameBase (h g : HeadEnd) : Type 0 where
@@ -114,11 +107,6 @@ module _ (h : HeadEnd) (k : Known) (a : Assoc) (digest : Bool) (f : Fields) wher
       go false true = same-base h
       go false false = same-base h
 
-  -- a Key Request changes nothing of the state
-  key-state : f .code ≡ 7 → reactionOf h k a digest f .state ≡ h
-  key-state e =
-      ap (λ (r : Reaction). r .state) (react-key h k a digest f (ne-eqb (f .code) 4 (λ q. omega (arith, e, q))) (eq-eqb (f .code) 7 e))
-
 module _ (h : HeadEnd) (xs : List Assoc) (address : ℕ) (digest : Bool) (s key : List ℕ) (lent : ℕ) where
   abbrev reacted : Reaction
   reacted = reactionTo h (lookupOf (ofRequest (readOf AtHeadEnd s)) xs) address digest (readOf AtHeadEnd s)
@@ -135,12 +123,3 @@ module _ (h : HeadEnd) (xs : List Assoc) (address : ℕ) (digest : Bool) (s key 
       go : (a : Answer) → SameBase h (calledFor a h reacted key .state)
       go Done = reaction-base h (knownOf h address) (lookupOf (ofRequest (readOf AtHeadEnd s)) xs .held) digest (readOf AtHeadEnd s .fields)
       go (Refused r) = same-base h
-
-  -- a Key Request leaves all of the state as it was
-  pub key-request-keeps : readOf AtHeadEnd s .fields .code ≡ 7 → receiveOf h xs address digest s key lent .state ≡ h
-  unfolding receiveCalled
-  key-request-keeps e = go receiveAsked
-    where
-      go : (a : Answer) → calledFor a h reacted key .state ≡ h
-      go Done = key-state h (knownOf h address) (lookupOf (ofRequest (readOf AtHeadEnd s)) xs .held) digest (readOf AtHeadEnd s .fields) e
-      go (Refused r) = refl

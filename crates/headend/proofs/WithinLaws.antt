@@ -11,9 +11,9 @@ use Rattle.association.specs.Record.{recordFits}
 use Rattle.association.proofs.RecordLaws.{InLimits, limits-of}
 use Rattle.records.specs.Records.{none, firstBy}
 use Rattle.records.proofs.RecordsLaws.{passed-hit}
-use Rattle.headend_steps.specs.declared.state.HeadEnd.{HeadEnd}
-use Rattle.headend_steps.specs.Limits.{headFits}
-use Rattle.headend_steps.specs.Search.{halfIn, outOfLimits}
+use Rattle.headend_state.specs.declared.state.HeadEnd.{HeadEnd}
+use Rattle.headend_limits.specs.Limits.{headFits}
+use Rattle.headend_limits.specs.Search.{halfIn, outOfLimits}
 use Rattle.headend.specs.Within.{Within}
 
 -- ---- a search passes what it does not look for

@@ -14,10 +14,10 @@ use Rattle.association.specs.declared.record.Assoc.{Assoc}
 use Rattle.wire.specs.declared.fields.Receiver.the-variants.{HeadEnd as AtHeadEnd}
 use Rattle.wire.specs.Reading.{readOf}
 use Rattle.records.specs.Records.{firstOf, lookupOf, rolledTo, storedAt}
-use Rattle.headend_steps.specs.declared.state.HeadEnd.{HeadEnd}
-use Rattle.headend_steps.specs.declared.state.Called.{Called}
-use Rattle.headend_steps.specs.State.{freshOf, answeredCall}
-use Rattle.headend_steps.specs.Search.{halfIn, outOfLimits, oneOf, ofRequest}
+use Rattle.headend_state.specs.declared.state.HeadEnd.{HeadEnd}
+use Rattle.headend_state.specs.declared.state.Called.{Called}
+use Rattle.headend_state.specs.State.{freshOf, answeredCall}
+use Rattle.headend_limits.specs.Search.{halfIn, outOfLimits, oneOf, ofRequest}
 use Rattle.headend_steps.specs.Listing.{listCalled}
 use Rattle.headend_steps.specs.Clock.{clockCalled}
 use Rattle.headend_steps.specs.Receive.{receiveCalled, receiveWritten}

@@ -7,9 +7,9 @@ use Rattle.keys.specs.Sealing.{Sealed}
 use Rattle.association.specs.declared.record.Assoc.{Assoc}
 use Rattle.association.specs.declared.search.Probe.the-variants.{OfSaid}
 use Rattle.records.specs.Records.{firstOf, lookupOf}
-use Rattle.headend_steps.specs.declared.state.HeadEnd.{HeadEnd}
-use Rattle.headend_steps.specs.Search.{outOfLimits}
-use Rattle.headend_steps.specs.Frames.{sealedWith, HeadOpened, openedWith}
+use Rattle.headend_state.specs.declared.state.HeadEnd.{HeadEnd}
+use Rattle.headend_limits.specs.Search.{outOfLimits}
+use Rattle.headend_frames.specs.Frames.{sealedWith, HeadOpened, openedWith}
 
 -- A frame for a modem's address and a SAID, with the lengths of the slices for TEK and vector
 abbrev pub sealOf : HeadEnd → List Assoc → ℕ → ℕ → ℕ → ℕ → Sealed

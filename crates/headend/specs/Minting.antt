@@ -3,8 +3,8 @@ use Prim.Native.Nat.{ℕ, zero, suc}
 use mathlib.Core.List.{List, [], _∷_, _++_}
 use Rattle.association.specs.declared.listing.Listing.{Listing}
 use Rattle.association.specs.Made.{SaidSuite, Accepted, listing, clock}
-use Rattle.headend_steps.specs.declared.state.HeadEnd.{HeadEnd}
-use Rattle.headend_steps.specs.Entries.{saidAt, suiteAt}
+use Rattle.headend_state.specs.declared.state.HeadEnd.{HeadEnd}
+use Rattle.headend_state.specs.Entries.{saidAt, suiteAt}
 
 -- The SAID at a place of a listing, with the suite that stands beside it
 abbrev pub pairAt : Listing → ℕ → SaidSuite

@@ -27,11 +27,11 @@ use Rattle.wire.proofs.DescriptorsWritten.{length-descriptors}
 use Rattle.association.specs.declared.listing.Listing.{Listing}
 use Rattle.association.specs.declared.record.Assoc.{Assoc}
 use Rattle.association.proofs.RecordLaws.{InLimits}
-use Rattle.headend_steps.specs.declared.state.AuthKeys.{AuthKeys}
-use Rattle.headend_steps.specs.Authorization.{lifeLeft}
-use Rattle.headend_steps.specs.Entries.{saidAt}
-use Rattle.headend_steps.specs.Answers.{reject, invalid, keyReject, descriptorAt, replyAnswer, paramsAt, keyReply}
-use Rattle.headend_steps.proofs.ListingLaws.{ListingIn, by-four}
+use Rattle.headend_state.specs.declared.state.AuthKeys.{AuthKeys}
+use Rattle.headend_state.specs.Authorization.{lifeLeft}
+use Rattle.headend_state.specs.Entries.{saidAt}
+use Rattle.headend_answers.specs.Answers.{reject, invalid, keyReject, descriptorAt, replyAnswer, paramsAt, keyReply}
+use Rattle.headend_limits.proofs.ListingLaws.{ListingIn, by-four}
 
 -- ---- answers with an error
 pub reject-fits : (i e : ℕ) → fieldsFit (reject i e) ≡ true

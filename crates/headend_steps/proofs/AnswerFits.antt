@@ -23,17 +23,17 @@ use Rattle.association.specs.declared.record.Assoc.{Assoc}
 use Rattle.association.specs.declared.search.Found.{Found}
 use Rattle.association.specs.Record.{recordFits}
 use Rattle.association.proofs.RecordLaws.{InLimits, limits-of}
-use Rattle.headend_steps.specs.declared.state.AuthKeys.{AuthKeys}
-use Rattle.headend_steps.specs.declared.state.HeadEnd.{HeadEnd}
-use Rattle.headend_steps.specs.declared.entries.Known.{Known}
-use Rattle.headend_steps.specs.Authorization.{newestNumber, keepIf, activeOf, hasNumber, isActive, lifeLeft}
-use Rattle.headend_steps.specs.Entries.{lists, listsSuite, knownOf}
-use Rattle.headend_steps.specs.Limits.{headFits}
-use Rattle.headend_steps.specs.Search.{halfIn}
-use Rattle.headend_steps.specs.Answers.{reject, invalid, keyReject, replyAnswer, keyReply, keyAnswer, keysAfter, requestAnswer, requestReaction, reactionOf, ReactionFits}
+use Rattle.headend_state.specs.declared.state.AuthKeys.{AuthKeys}
+use Rattle.headend_state.specs.declared.state.HeadEnd.{HeadEnd}
+use Rattle.headend_state.specs.declared.entries.Known.{Known}
+use Rattle.headend_state.specs.Authorization.{newestNumber, keepIf, activeOf, hasNumber, isActive, lifeLeft}
+use Rattle.headend_state.specs.Entries.{lists, listsSuite, knownOf}
+use Rattle.headend_limits.specs.Limits.{headFits}
+use Rattle.headend_limits.specs.Search.{halfIn}
+use Rattle.headend_answers.specs.Answers.{reject, invalid, keyReject, replyAnswer, keyReply, keyAnswer, keysAfter, requestAnswer, requestReaction, reactionOf, ReactionFits}
 use Rattle.headend_steps.specs.Receive.{recordSuits, receiveAnswer, reactionTo, Writable}
-use Rattle.headend_steps.proofs.ListingLaws.{ListingIn}
-use Rattle.headend_steps.proofs.LimitsLaws.{countable, newest-life, entry-facts, head-facts, known-in}
+use Rattle.headend_limits.proofs.ListingLaws.{ListingIn}
+use Rattle.headend_limits.proofs.LimitsLaws.{countable, newest-life, entry-facts, head-facts, known-in}
 use Rattle.headend_steps.proofs.AskedLaws.{ReceiveAsked, receive-asked}
 use Rattle.headend_steps.proofs.AnswerFields.{reject-fits, invalid-fits, key-reject-fits, reply-fits, key-reply-fits, reject-length, invalid-length, key-reject-length, reply-most, key-reply-most}
 

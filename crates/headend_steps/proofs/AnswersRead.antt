@@ -25,11 +25,11 @@ use Rattle.association.specs.declared.listing.Listing.{Listing}
 use Rattle.association.specs.declared.record.Assoc.{Assoc}
 use Rattle.association.specs.declared.search.Found.{Found}
 use Rattle.association.proofs.RecordLaws.{InLimits}
-use Rattle.headend_steps.specs.declared.state.AuthKeys.{AuthKeys}
-use Rattle.headend_steps.specs.declared.state.HeadEnd.{HeadEnd}
-use Rattle.headend_steps.specs.declared.entries.Known.{Known}
-use Rattle.headend_steps.specs.Entries.{knownOf}
-use Rattle.headend_steps.specs.Answers.{errorAnswer, reject, invalid, keyReject, replyAnswer, keyReply, keyAnswer, keysAfter, requestAnswer, requestReaction, reactionOf}
+use Rattle.headend_state.specs.declared.state.AuthKeys.{AuthKeys}
+use Rattle.headend_state.specs.declared.state.HeadEnd.{HeadEnd}
+use Rattle.headend_state.specs.declared.entries.Known.{Known}
+use Rattle.headend_state.specs.Entries.{knownOf}
+use Rattle.headend_answers.specs.Answers.{errorAnswer, reject, invalid, keyReject, replyAnswer, keyReply, keyAnswer, keysAfter, requestAnswer, requestReaction, reactionOf}
 use Rattle.headend_steps.specs.Receive.{answerOctets, receiveAnswer, reactionTo, receiveCalled, receiveWritten}
 use Rattle.headend_steps.proofs.AnswerFields.{key-reply-fits}
 use Rattle.headend_steps.proofs.AnswerFits.{by-key-answer, reaction-writable}

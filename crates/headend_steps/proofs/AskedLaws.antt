@@ -16,15 +16,15 @@ use Rattle.keys.specs.Refusal.{isDone}
 use Rattle.keys.proofs.TestLaws.{both, either}
 use Rattle.association.specs.declared.listing.Listing.{Listing}
 use Rattle.association.specs.declared.search.Found.{Found}
-use Rattle.association.specs.Record.{saidFits}
+use Rattle.keys.specs.Addresses.{saidFits, addressFits}
 use Rattle.wire.specs.declared.fields.Reading.{Reading}
 use Rattle.keys.proofs.AnswerLaws.{done-met, is-done}
-use Rattle.headend_steps.specs.declared.state.HeadEnd.{HeadEnd}
-use Rattle.headend_steps.specs.declared.answers.Reaction.{Reaction}
-use Rattle.headend_steps.specs.State.{withClock, answeredCall}
-use Rattle.headend_steps.specs.Entries.{entriesOf, knownOf}
-use Rattle.headend_steps.specs.Limits.{addressFits, listingFits, saidsDiffer, allApart, headFits}
-use Rattle.headend_steps.specs.Search.{recordsFit}
+use Rattle.headend_state.specs.declared.state.HeadEnd.{HeadEnd}
+use Rattle.headend_answers.specs.declared.answers.Reaction.{Reaction}
+use Rattle.headend_state.specs.State.{withClock, answeredCall}
+use Rattle.headend_state.specs.Entries.{entriesOf, knownOf}
+use Rattle.headend_limits.specs.Limits.{listingFits, saidsDiffer, allApart, headFits}
+use Rattle.headend_limits.specs.Search.{recordsFit}
 use Rattle.headend_steps.specs.Listing.{listQuestions, listAnswer, listFor, grown}
 use Rattle.headend_steps.specs.Clock.{clockQuestions, clockAnswer, clockFor}
 use Rattle.headend_steps.specs.Receive.{recordSuits, identifierFits, receiveAnswer, calledFor, writtenFor, answerOctets}

@@ -1,11 +1,5 @@
-pub mod EntriesLaws
-pub mod AuthorizationLaws
-pub mod ListingLaws
-pub mod LimitsLaws
 pub mod AskedLaws
-pub mod AnswersLaws
 pub mod AnswerFields
 pub mod AnswerFits
 pub mod AnswersRead
 pub mod PutLaws
-pub mod FrameCallLaws

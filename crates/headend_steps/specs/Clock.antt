@@ -7,11 +7,11 @@ use Rattle.keys.specs.declared.refusal.Answer.{Answer}
 use Rattle.keys.specs.declared.refusal.Answer.the-variants.{Done, Refused}
 use Rattle.keys.specs.declared.refusal.Refusal.the-variants.{OutOfLimits, WrongLength, ClockOutOfOrder}
 use Rattle.keys.specs.Questions.{Question, firstNo}
-use Rattle.headend_steps.specs.declared.state.HeadEnd.{HeadEnd}
-use Rattle.headend_steps.specs.declared.state.Called.{Called}
-use Rattle.headend_steps.specs.State.{withClock, answeredCall}
-use Rattle.headend_steps.specs.Search.{recordsFit}
-use Rattle.headend_steps.specs.Limits.{headFits}
+use Rattle.headend_state.specs.declared.state.HeadEnd.{HeadEnd}
+use Rattle.headend_state.specs.declared.state.Called.{Called}
+use Rattle.headend_state.specs.State.{withClock, answeredCall}
+use Rattle.headend_limits.specs.Search.{recordsFit}
+use Rattle.headend_limits.specs.Limits.{headFits}
 
 -- With `bad` the place of the first record out of its limits, `len` records and `octets` octets of material lent: the state and the
 -- records in use are within the limits; all records in use are lent, and 64 octets for each; the clock is not earlier than the last

@@ -1,11 +1,3 @@
-pub mod State
-pub mod Authorization
-pub mod Entries
-pub mod Limits
-pub mod Search
 pub mod Listing
 pub mod Clock
-pub mod Answers
 pub mod Receive
-pub mod Frames
-pub mod FrameCalled

@@ -9,12 +9,13 @@ use Rattle.keys.specs.declared.refusal.Answer.the-variants.{Done, Refused}
 use Rattle.keys.specs.declared.refusal.Refusal.the-variants.{OutOfLimits, WrongLength, NoFreePlace, NotNew}
 use Rattle.keys.specs.Questions.{Question, firstNo}
 use Rattle.association.specs.declared.listing.Listing.{Listing}
-use Rattle.headend_steps.specs.declared.state.HeadEnd.{HeadEnd}
-use Rattle.headend_steps.specs.declared.state.Called.{Called}
-use Rattle.headend_steps.specs.State.{noKeys, withEntries, answeredCall}
-use Rattle.headend_steps.specs.Entries.{entriesOf}
-use Rattle.headend_steps.specs.Search.{recordsFit}
-use Rattle.headend_steps.specs.Limits.{addressFits, listingFits, saidsDiffer, allApart, headFits}
+use Rattle.headend_state.specs.declared.state.HeadEnd.{HeadEnd}
+use Rattle.headend_state.specs.declared.state.Called.{Called}
+use Rattle.headend_state.specs.State.{noKeys, withEntries, answeredCall}
+use Rattle.headend_state.specs.Entries.{entriesOf}
+use Rattle.headend_limits.specs.Search.{recordsFit}
+use Rattle.keys.specs.Addresses.{addressFits}
+use Rattle.headend_limits.specs.Limits.{listingFits, saidsDiffer, allApart, headFits}
 
 -- With `bad` the place of the first record out of its limits, `clash` that of the first record with one of the SAIDs, `len` records and
 -- `octets` octets of material lent: the state, the records in use and the listing's fields are within the limits; all records in use are

@@ -10,20 +10,20 @@ use Rattle.keys.specs.declared.refusal.Answer.the-variants.{Done, Refused}
 use Rattle.keys.specs.declared.refusal.Refusal.the-variants.{OutOfLimits, WrongLength, WrongIdentifier}
 use Rattle.keys.specs.Questions.{firstThen}
 use Rattle.association.specs.declared.search.Found.{Found}
-use Rattle.association.specs.Record.{saidFits}
+use Rattle.keys.specs.Addresses.{saidFits, addressFits}
 use Rattle.wire.specs.declared.fields.Fields.{Fields}
 use Rattle.wire.specs.declared.fields.Reading.{Reading}
 use Rattle.wire.specs.Limits.{fieldsFit, authKeyFits}
 use Rattle.wire.specs.Writing.{messageOf, noDigest}
-use Rattle.headend_steps.specs.declared.state.HeadEnd.{HeadEnd}
-use Rattle.headend_steps.specs.declared.state.Called.{Called}
-use Rattle.headend_steps.specs.declared.entries.Known.{Known}
-use Rattle.headend_steps.specs.declared.answers.Reaction.{Reaction}
-use Rattle.headend_steps.specs.State.{answeredCall}
-use Rattle.headend_steps.specs.Entries.{knownOf}
-use Rattle.headend_steps.specs.Limits.{addressFits, headFits}
-use Rattle.headend_steps.specs.Search.{recordsFit, foundSuits}
-use Rattle.headend_steps.specs.Answers.{keyAnswer, reactionOf}
+use Rattle.headend_state.specs.declared.state.HeadEnd.{HeadEnd}
+use Rattle.headend_state.specs.declared.state.Called.{Called}
+use Rattle.headend_state.specs.declared.entries.Known.{Known}
+use Rattle.headend_answers.specs.declared.answers.Reaction.{Reaction}
+use Rattle.headend_state.specs.State.{answeredCall}
+use Rattle.headend_state.specs.Entries.{knownOf}
+use Rattle.headend_limits.specs.Limits.{headFits}
+use Rattle.headend_limits.specs.Search.{recordsFit, foundSuits}
+use Rattle.headend_answers.specs.Answers.{keyAnswer, reactionOf}
 
 -- ---- questions
 

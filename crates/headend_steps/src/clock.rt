@@ -1,13 +1,13 @@
 // The head-end's clock: what is asked, and the head-end after it.
 ghost use mathlib.Core.Path.{_≡_};
-ghost use Rattle.headend_steps.specs.State.{withClock};
+ghost use Rattle.headend_state.specs.State.{withClock};
 ghost use Rattle.headend_steps.specs.Clock.{clockAnswer, clockCalled};
-use crate::limits::head_fits;
 use crate::listing::is_material;
-use crate::search::records_fit;
-use crate::state::Called;
-use crate::state::HeadEnd;
-use crate::state::answered;
+use headend_limits::limits::head_fits;
+use headend_limits::search::records_fit;
+use headend_state::state::Called;
+use headend_state::state::HeadEnd;
+use headend_state::state::answered;
 use keys::refusal::Answer;
 use keys::refusal::Refusal;
 use keys::refusal::ask;

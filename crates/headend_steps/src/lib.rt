@@ -1,13 +1,6 @@
 // The head-end's state by value, and what a listing, the clock, a message and a frame do to it: modems' entries, authorization keys,
 // question 1, and the answers. Each contract equates the result with a definition of specs/. Crate `headend` has the calls, over lent
 // records.
-pub mod answers;
-pub mod authorization;
 pub mod clock;
-pub mod entries;
-pub mod frames;
-pub mod limits;
 pub mod listing;
 pub mod receive;
-pub mod search;
-pub mod state;

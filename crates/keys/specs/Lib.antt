@@ -1,5 +1,6 @@
 pub mod Numbers
 pub mod Suites
+pub mod Addresses
 pub mod Octets
 pub mod Apart
 pub mod Traffic

@@ -3,10 +3,15 @@ use mathlib.Core.Bool.{Bool, _&&_}
 use Prim.Native.Nat.{ℕ, _+_}
 use mathlib.Core.List.{List}
 use lib.Dec.{ltb, leb}
+use lib.ListN.{replicate}
 use Rattle.keys.specs.declared.traffic.TrafficKey.{TrafficKey}
 use Rattle.keys.specs.declared.numbers.TekNumber.{TekNumber}
 use Rattle.keys.specs.Numbers.{tekInRange, sameTek, afterOf}
 use Rattle.keys.specs.Octets.{octetsOf, zeroPast}
+
+-- A key that is not there: all zero
+abbrev pub noKey : TrafficKey
+noKey = record { number = record { 0 = 0 }; deadline = 0; tek = replicate 16 0; vector = replicate 16 0 }
 
 -- In the 32 octets at a place the TEK starts at 0 and the vector at 16; each is w octets wide, and the rest is dropped
 abbrev pub keyFrom : List ℕ → ℕ → ℕ → TekNumber → ℕ → TrafficKey

@@ -2,7 +2,7 @@
 ghost use mathlib.Core.Path.{_≡_};
 ghost use Prim.Native.Nat.{_+_, _<_};
 ghost use lib.Dec.{leb};
-ghost use Rattle.keys.specs.Traffic.{keyFrom, keyFits, follows, pairFits};
+ghost use Rattle.keys.specs.Traffic.{noKey, keyFrom, keyFits, follows, pairFits};
 use crate::numbers::TekNumber;
 use crate::numbers::same_tek;
 use crate::numbers::tek_after;
@@ -16,6 +16,19 @@ pub struct TrafficKey {
     pub deadline: u64,
     pub tek: [u8; 16],
     pub vector: [u8; 16],
+}
+
+// A key that is not there: all zero.
+pub fn no_key() -> TrafficKey
+    ensures { λ r. ⌜ r ≡ noKey ⌝ }
+{
+    let zeros = [0u8; 16];
+    TrafficKey {
+        number: TekNumber(0),
+        deadline: 0,
+        tek: zeros,
+        vector: zeros,
+    }
 }
 
 // The key in the 32 octets of `m` at `at`, `w` octets wide.

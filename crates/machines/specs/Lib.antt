@@ -2,4 +2,3 @@ pub mod Transitions
 pub mod Identifier
 pub mod Timers
 pub mod Tek
-pub mod Authorization

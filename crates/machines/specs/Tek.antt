@@ -1,11 +1,10 @@
 -- What an event does to a TEK machine (document 01, "Modem: TEK machine, one per SAID").
 use Prim.Native.Nat.{ℕ, _+_, _-_, _≤_}
 use mathlib.Core.Bool.{Bool, cond, _&&_, _||_, not}
-use mathlib.Core.List.{List}
 use lib.Dec.{eqb}
-use lib.ListN.{replicate}
 use Rattle.keys.specs.declared.numbers.AkNumber.{AkNumber}
 use Rattle.keys.specs.declared.traffic.TrafficKey.{TrafficKey}
+use Rattle.keys.specs.Traffic.{noKey}
 use Rattle.wire.specs.declared.fields.Params.{Params}
 use Rattle.machines.specs.declared.timer.Timer.{Timer}
 use Rattle.machines.specs.declared.tek.Pair.{Pair}
@@ -40,9 +39,6 @@ tekTimer to x newer =
     off))
 
 -- ---- keys
-
-abbrev pub noKey : TrafficKey
-noKey = record { number = record { 0 = 0 }; deadline = 0; tek = replicate 16 0; vector = replicate 16 0 }
 
 abbrev pub noPair : Pair
 noPair = record { held = 0; older = noKey; newer = noKey }

@@ -1,6 +1,6 @@
 -- The two matrices as document 01 lists them: event, state, next state. States A to F are 0 to 5.
 use Prim.Native.Nat.{ℕ}
-use mathlib.Core.Bool.{Bool, cond, _&&_}
+use mathlib.Core.Bool.{cond, _&&_}
 use mathlib.Core.List.{List, [], _∷_}
 use lib.Dec.{eqb}
 

@@ -1,15 +1,15 @@
 // The TEK machine of one SAID.
 ghost use mathlib.Core.Path.{_≡_};
 ghost use Prim.Native.Nat.{_+_, _-_, _≤_};
-ghost use Rattle.machines.specs.Tek.{sendsInto, takesNew, identifierAfter, counterAfter, tekTimer, noKey, noPair, keyOf, pairOf, pairAfter, nothing, tekSends, tekMoved, tekStepOf, TekReady};
+ghost use Rattle.machines.specs.Tek.{sendsInto, takesNew, identifierAfter, counterAfter, tekTimer, noPair, keyOf, pairOf, pairAfter, nothing, tekSends, tekMoved, tekStepOf, TekReady};
 use crate::identifier::next_identifier;
 use crate::timer::Timer;
 use crate::timer::cleared;
 use crate::timer::set_at;
 use crate::transitions::tek_next;
 use keys::numbers::AkNumber;
-use keys::numbers::TekNumber;
 use keys::traffic::TrafficKey;
+use keys::traffic::no_key;
 use wire::fields::Params;
 
 // The pair of a Key Reply; `held` is 0 or 1, and where it is 0 both keys are zero.
@@ -61,13 +61,7 @@ pub struct TekStep {
 pub fn no_pair() -> Pair
     ensures { λ r. ⌜ r ≡ noPair ⌝ }
 {
-    let zeros = [0u8; 16];
-    let key = TrafficKey {
-        number: TekNumber(0),
-        deadline: 0,
-        tek: zeros,
-        vector: zeros,
-    };
+    let key = no_key();
     Pair {
         held: 0,
         older: key,

@@ -22,8 +22,8 @@ use Rattle.wire.proofs.MessageAnswers.{read-answer}
 use Rattle.modem_steps.specs.declared.state.Modem.{Modem}
 use Rattle.modem_steps.specs.declared.state.Work.{Work}
 use Rattle.modem_steps.specs.declared.state.Called.{Called}
-use Rattle.modem_steps.specs.Receive.{widthsFit, saidKnown, identifierFits, digestHolds, receiveQuestions, fieldsIn}
-use Rattle.modem.specs.Limits.{modemFits}
+use Rattle.modem_receive.specs.Receive.{widthsFit, saidKnown, identifierFits, digestHolds, receiveQuestions, fieldsIn}
+use Rattle.modem_limits.specs.Limits.{modemFits}
 use Rattle.modem_steps.specs.State.{starting}
 use Rattle.modem_steps.specs.Machine.{plainEvent}
 use Rattle.modem.specs.Messages.{outOctets, OutFits}

@@ -26,8 +26,8 @@ use Rattle.wire.proofs.ReadFits.{life-ranged}
 use Rattle.modem_steps.specs.declared.state.Modem.{Modem}
 use Rattle.modem_steps.specs.State.{ReadyAt, Ready}
 use Rattle.modem_steps.specs.Slots.{slotOfSaid}
-use Rattle.modem_steps.specs.Receive.{ofSaid, isKnown, saidKnown, fieldsIn, Takeable}
-use Rattle.modem.specs.Limits.{modemFits}
+use Rattle.modem_receive.specs.Receive.{ofSaid, isKnown, saidKnown, fieldsIn, Takeable}
+use Rattle.modem_limits.specs.Limits.{modemFits}
 
 -- ---- a modem within its limits is ready
 wait-small : (n : ℕ) → waitFits n ≡ true → n ≤ 600

@@ -24,8 +24,8 @@ use Rattle.modem_steps.specs.declared.state.Work.{Work}
 use Rattle.modem_steps.specs.State.{starting, freshOf}
 use Rattle.modem_steps.specs.Machine.{plainEvent}
 use Rattle.modem_steps.specs.Clock.{clocked}
-use Rattle.modem_steps.specs.Receive.{widthsFit, saidKnown, identifierFits, digestHolds, fieldsIn, receiveQuestions, received}
-use Rattle.modem.specs.Limits.{modemFits}
+use Rattle.modem_receive.specs.Receive.{widthsFit, saidKnown, identifierFits, digestHolds, fieldsIn, receiveQuestions, received}
+use Rattle.modem_limits.specs.Limits.{modemFits}
 use Rattle.modem.specs.Messages.{outOctets}
 use Rattle.modem.specs.Calls.{Result, resultOf, firstQuestions, newQuestions, newFor, newOf, eventOf, establishedOf, reauthOf, clockFits, clockOf, receiveOf}
 use Rattle.modem.proofs.SentFits.{plain-short, clocked-short, message-short}

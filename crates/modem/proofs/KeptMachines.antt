@@ -14,8 +14,8 @@ use Rattle.keys.specs.Traffic.{keyFits, follows, pairFits}
 use Rattle.keys.proofs.TestLaws.{both}
 use Rattle.wire.specs.declared.fields.Params.{Params}
 use Rattle.wire.proofs.HoldsLaws.{never}
-use Rattle.machines.specs.declared.authorization.Authorization.{Authorization}
-use Rattle.machines.specs.declared.authorization.AuthMoment.{AuthMoment}
+use Rattle.authorization_machine.specs.declared.authorization.Authorization.{Authorization}
+use Rattle.authorization_machine.specs.declared.authorization.AuthMoment.{AuthMoment}
 use Rattle.machines.specs.declared.tek.Pair.{Pair}
 use Rattle.machines.specs.declared.tek.Tek.{Tek}
 use Rattle.machines.specs.declared.tek.TekMoment.{TekMoment}
@@ -23,9 +23,9 @@ use Rattle.machines.specs.declared.timer.Timer.{Timer}
 use Rattle.machines.specs.Transitions.{Transition, A, B, C, D, E, F, blank, nextIn, authorizationTransitions, tekTransitions, authorizationNext, tekNext}
 use Rattle.machines.specs.Timers.{off, setAt}
 use Rattle.machines.specs.Tek.{noPair, pairOf, pairAfter, tekTimer, tekMoved, tekStays, tekStepOf}
-use Rattle.machines.specs.Authorization.{isPassive, authTimer, authMoved, authStays, authStepOf, AuthReady}
-use Rattle.modem.specs.Limits.{timerFits, keyZero, authorizationFits, pairHeldFits, longestWait, tekFits}
-use Rattle.modem.proofs.LimitsLaws.{tek-in, tek-by, auth-in, auth-by}
+use Rattle.authorization_machine.specs.Authorization.{isPassive, authTimer, authMoved, authStays, authStepOf, AuthReady}
+use Rattle.modem_limits.specs.Limits.{timerFits, keyZero, authorizationFits, pairHeldFits, longestWait, tekFits}
+use Rattle.modem_limits.proofs.LimitsLaws.{tek-in, tek-by, auth-in, auth-by}
 
 -- ---- what holds of every transition of a matrix holds of every step that is no blank
 abbrev pub every : (ℕ → ℕ → ℕ → Bool) → List Transition → Bool

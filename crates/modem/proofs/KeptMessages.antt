@@ -30,13 +30,14 @@ use Rattle.modem_steps.specs.declared.state.Modem.{Modem}
 use Rattle.modem_steps.specs.declared.state.Work.{Work}
 use Rattle.modem_steps.specs.State.{slotAt, starting, freshOf}
 use Rattle.modem_steps.specs.Slots.{toldAll, slotOfSaid, slotAsking}
-use Rattle.modem_steps.specs.Machine.{plainEvent, rejectEvent, rejected, pendedIf, invalidated}
+use Rattle.modem_steps.specs.Machine.{plainEvent}
+use Rattle.modem_events.specs.Events.{rejectEvent, rejected, pendedIf, invalidated}
 use Rattle.modem_steps.specs.Clock.{clocked}
-use Rattle.modem_steps.specs.Receive.{isKnown, paramsWide, widthsFit, saidKnown, fieldsIn, received}
-use Rattle.modem.specs.Limits.{timerFits, authorizationFits, keyZero, pairHeldFits, tekZero, modemFits}
+use Rattle.modem_receive.specs.Receive.{isKnown, paramsWide, widthsFit, saidKnown, fieldsIn, received}
+use Rattle.modem_limits.specs.Limits.{timerFits, authorizationFits, keyZero, pairHeldFits, tekZero, modemFits}
 use Rattle.modem.proofs.AskedLaws.{takeable}
-use Rattle.modem.proofs.LimitsLaws.{by-four, SlotIn, InLimits, limits-of, fits-by}
-use Rattle.modem.proofs.ReceiveLaws.{by-received}
+use Rattle.modem_limits.proofs.LimitsLaws.{by-four, SlotIn, InLimits, limits-of, fits-by}
+use Rattle.modem_receive.proofs.ReceiveLaws.{by-received}
 use Rattle.modem.proofs.SentFits.{read-fit, read-listed, read-heard}
 use Rattle.modem.proofs.KeptSteps.{Kept, kept-either, told-kept, plain-told-kept, all-kept, plain-kept, clocked-kept}
 use Rattle.modem.proofs.KeptReply.{replied-kept}

@@ -26,9 +26,10 @@ use Rattle.modem_steps.specs.declared.state.Work.{Work}
 use Rattle.modem_steps.specs.State.{pastTek, slotAt, starting}
 use Rattle.modem_steps.specs.Slots.{tekMoment, firstSlot, slotOfSaid}
 use Rattle.modem_steps.specs.Relist.{descriptorAt, lists, emptied, placed, appended, keptIf, keptOne, keptTo, freshTek, startedIf, startedOne, startedTo, listedAnew, relisted}
-use Rattle.modem_steps.specs.Machine.{authTold, replied}
-use Rattle.modem.specs.Limits.{timerFits, keyZero, pairHeldFits, tekFits, tekZero}
-use Rattle.modem.proofs.LimitsLaws.{Apart, by-four, SlotIn, InLimits, tek-by}
+use Rattle.modem_steps.specs.Machine.{authTold}
+use Rattle.modem_events.specs.Events.{replied}
+use Rattle.modem_limits.specs.Limits.{timerFits, keyZero, pairHeldFits, tekFits, tekZero}
+use Rattle.modem_limits.proofs.LimitsLaws.{Apart, by-four, SlotIn, InLimits, tek-by}
 use Rattle.modem.proofs.OutLaws.{tek-said}
 use Rattle.modem.proofs.KeptMachines.{step-fits}
 use Rattle.modem.proofs.KeptSteps.{Kept, kept-either, auth-kept}

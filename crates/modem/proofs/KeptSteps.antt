@@ -18,16 +18,16 @@ use Rattle.machines.specs.declared.tek.Tek.{Tek}
 use Rattle.machines.specs.Transitions.{D}
 use Rattle.machines.specs.Timers.{isDue}
 use Rattle.machines.specs.Tek.{pairOf, tekStepOf}
-use Rattle.machines.specs.Authorization.{AuthReady}
+use Rattle.authorization_machine.specs.Authorization.{AuthReady}
 use Rattle.modem_steps.specs.declared.state.Modem.{Modem}
 use Rattle.modem_steps.specs.declared.state.Work.{Work}
 use Rattle.modem_steps.specs.State.{withClock, pastTek, slotAt, starting}
 use Rattle.modem_steps.specs.Slots.{tekMoment, steppedAt, toldReply, told, toldAll}
 use Rattle.modem_steps.specs.Machine.{authMoment, authStepped, authTold, plainEvent}
 use Rattle.modem_steps.specs.Clock.{authTimerEvent, tekTimerEvent, authFired, slotFired, slotsFired, clocked}
-use Rattle.modem.specs.Limits.{pairHeldFits, tekFits, tekZero}
+use Rattle.modem_limits.specs.Limits.{pairHeldFits, tekFits, tekZero}
 use Rattle.modem.proofs.AskedLaws.{waits-ready}
-use Rattle.modem.proofs.LimitsLaws.{Apart, InLimits, zero-slot}
+use Rattle.modem_limits.proofs.LimitsLaws.{Apart, InLimits, zero-slot}
 use Rattle.modem.proofs.OutLaws.{tek-said}
 use Rattle.modem.proofs.KeptMachines.{tek-later, auth-later, step-fits, step-stays, auth-fits}
 

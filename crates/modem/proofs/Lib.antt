@@ -1,10 +1,7 @@
-pub mod ApartLaws
-pub mod ReceiveLaws
 pub mod AskedLaws
 pub mod OutLaws
 pub mod SentLaws
 pub mod PutLaws
-pub mod LimitsLaws
 pub mod SentFits
 pub mod AnswerLaws
 pub mod NoneDropped
@@ -16,6 +13,13 @@ pub mod CallLaws
 pub mod ModemRows
 pub mod PairSteps
 pub mod PairLaws
-pub mod FrameLaws
-pub mod FrameCalledLaws
-pub mod FrameKept
+pub mod DifferLaws
+pub mod ReplySteps
+pub mod ReplyListed
+pub mod ReplyMade
+pub mod ReplyLaws
+pub mod ReplyTaken
+pub mod SentRead
+pub mod SentUp
+pub mod SentCalls
+pub mod CallMessages

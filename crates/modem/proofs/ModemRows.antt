@@ -17,22 +17,22 @@ use Rattle.wire.specs.declared.fields.Receiver.the-variants.{Modem as AtModem}
 use Rattle.wire.specs.Messages.{question9, messageAnswer}
 use Rattle.keys.proofs.AnswerLaws.{no-refused}
 use Rattle.wire.proofs.MessageAnswers.{answer-done}
-use Rattle.machines.specs.declared.authorization.Authorization.{Authorization}
-use Rattle.machines.specs.declared.authorization.AuthMoment.{AuthMoment}
-use Rattle.machines.specs.declared.authorization.AuthStep.{AuthStep}
+use Rattle.authorization_machine.specs.declared.authorization.Authorization.{Authorization}
+use Rattle.authorization_machine.specs.declared.authorization.AuthMoment.{AuthMoment}
+use Rattle.authorization_machine.specs.declared.authorization.AuthStep.{AuthStep}
 use Rattle.machines.specs.declared.tek.Request.{Request}
 use Rattle.machines.specs.declared.tek.Tek.{Tek}
 use Rattle.machines.specs.declared.tek.TekMoment.{TekMoment}
 use Rattle.machines.specs.declared.tek.TekStep.{TekStep}
 use Rattle.machines.specs.Transitions.{B, D, E, blank, nextIn, authorizationTransitions, tekTransitions, authorizationNext, tekNext}
 use Rattle.machines.specs.Tek.{nothing, keyRequest, counterAfter, identifierAfter, tekSends, tekMoved, tekStays, tekStepOf}
-use Rattle.machines.specs.Authorization.{authIdentifier, authCounter, requestsOf, authMoved, authStays, authStepOf}
+use Rattle.authorization_machine.specs.Authorization.{authIdentifier, authCounter, requestsOf, authMoved, authStays, authStepOf}
 use Rattle.modem_steps.specs.declared.state.Modem.{Modem}
 use Rattle.modem_steps.specs.declared.state.Work.{Work}
 use Rattle.modem_steps.specs.State.{slotAt}
 use Rattle.modem_steps.specs.Slots.{slotOfSaid}
-use Rattle.modem_steps.specs.Receive.{isKnown, widthsFit, saidKnown, identifierFits, fieldsIn, receiveQuestions, received}
-use Rattle.modem.specs.Limits.{modemFits}
+use Rattle.modem_receive.specs.Receive.{isKnown, widthsFit, saidKnown, identifierFits, fieldsIn, receiveQuestions, received}
+use Rattle.modem_limits.specs.Limits.{modemFits}
 use Rattle.modem.specs.Calls.{resultOf, firstQuestions, receiveOf}
 use Rattle.modem.proofs.OutLaws.{authRequest}
 use Rattle.modem.proofs.CallLaws.{Unchanged, receive-refused}

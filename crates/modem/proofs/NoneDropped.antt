@@ -16,7 +16,7 @@ use Rattle.machines.specs.declared.tek.Request.{Request}
 use Rattle.machines.specs.declared.tek.TekStep.{TekStep}
 use Rattle.machines.specs.Timers.{isDue}
 use Rattle.machines.specs.Tek.{tekStepOf}
-use Rattle.machines.specs.Authorization.{authStepOf}
+use Rattle.authorization_machine.specs.Authorization.{authStepOf}
 use Rattle.modem_steps.specs.declared.state.Modem.{Modem}
 use Rattle.modem_steps.specs.declared.state.Out.{Out}
 use Rattle.modem_steps.specs.declared.state.Work.{Work}

@@ -16,14 +16,14 @@ use Rattle.wire.specs.Attributes.{two, attrOctets, octets}
 use Rattle.wire.specs.Ranges.{neededOf, among, needs}
 use Rattle.wire.specs.Limits.{headFits, keyOctetsZero, paramsZero, descriptorZero, placeFit, descriptorsZero, fieldsFit, authKeyFits}
 use Rattle.wire.specs.Writing.{itemsOfType, itemsOfTypes, itemsOf, message, messageOf}
-use Rattle.machines.specs.declared.authorization.Authorization.{Authorization}
-use Rattle.machines.specs.declared.authorization.AuthMoment.{AuthMoment}
+use Rattle.authorization_machine.specs.declared.authorization.Authorization.{Authorization}
+use Rattle.authorization_machine.specs.declared.authorization.AuthMoment.{AuthMoment}
 use Rattle.machines.specs.declared.tek.Request.{Request}
 use Rattle.machines.specs.declared.tek.Tek.{Tek}
 use Rattle.machines.specs.declared.tek.TekMoment.{TekMoment}
 use Rattle.machines.specs.Transitions.{B, blank, tekNext, authorizationNext}
 use Rattle.machines.specs.Tek.{nothing, keyRequest, sendsInto, identifierAfter, tekSends, tekMoved, tekStays, tekStepOf}
-use Rattle.machines.specs.Authorization.{requestsInto, authIdentifier, informsOf, requestsOf, authMoved, authStays, authStepOf}
+use Rattle.authorization_machine.specs.Authorization.{requestsInto, authIdentifier, informsOf, requestsOf, authMoved, authStays, authStepOf}
 use Rattle.modem_steps.specs.declared.state.Out.{Out}
 use Rattle.modem_steps.specs.State.{noOut, pushed}
 use Rattle.modem.specs.Messages.{requestOctets, requestsOctets, outOctets, RequestFits, OutFits}

@@ -26,10 +26,10 @@ use Rattle.modem_steps.specs.State.{withClock, slotAt, starting}
 use Rattle.modem_steps.specs.Slots.{firstSlot, slotOfSaid, isWaiting}
 use Rattle.modem_steps.specs.Machine.{plainEvent}
 use Rattle.modem_steps.specs.Clock.{clocked}
-use Rattle.modem_steps.specs.Receive.{paramsWide, digestHolds, fieldsIn, receiveQuestions, received}
-use Rattle.modem.specs.Limits.{modemFits}
+use Rattle.modem_receive.specs.Receive.{paramsWide, digestHolds, fieldsIn, receiveQuestions, received}
+use Rattle.modem_limits.specs.Limits.{modemFits}
 use Rattle.modem.specs.Calls.{resultOf, firstQuestions, newQuestions, newFor, newOf, eventOf, establishedOf, reauthOf, clockOf, receiveOf}
-use Rattle.modem.proofs.ReceiveLaws.{known-slot, widths-known, identifier-tek, by-received}
+use Rattle.modem_receive.proofs.ReceiveLaws.{known-slot, widths-known, identifier-tek, by-received}
 use Rattle.modem.proofs.CallLaws.{clockQuestions, Asked, receive-asked}
 use Rattle.modem.proofs.PairSteps.{AllPairs, SameRest, rest-same, Carries, fresh-pairs, starting-carries, reply-carries, told-carries, plain-carries, replied-carries, rejected-carries, invalidated-carries, clocked-carries}
 

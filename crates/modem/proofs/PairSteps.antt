@@ -16,7 +16,7 @@ use Rattle.wire.specs.declared.fields.Fields.{Fields}
 use Rattle.wire.specs.declared.fields.Params.{Params}
 use Rattle.wire.specs.Fields.{noParams}
 use Rattle.wire.proofs.HoldsLaws.{never}
-use Rattle.machines.specs.declared.authorization.Authorization.{Authorization}
+use Rattle.authorization_machine.specs.declared.authorization.Authorization.{Authorization}
 use Rattle.machines.specs.declared.tek.Pair.{Pair}
 use Rattle.machines.specs.declared.tek.Tek.{Tek}
 use Rattle.machines.specs.declared.tek.TekMoment.{TekMoment}
@@ -29,7 +29,8 @@ use Rattle.modem_steps.specs.declared.state.Work.{Work}
 use Rattle.modem_steps.specs.State.{withMachines, withClock, pastTek, slotAt, starting, freshOf}
 use Rattle.modem_steps.specs.Slots.{tekMoment, steppedAt, toldReply, told, toldAll, slotOfSaid, slotAsking}
 use Rattle.modem_steps.specs.Relist.{descriptorAt, lists, emptied, placed, appended, keptIf, keptOne, keptTo, freshTek, startedIf, startedOne, startedTo, listedAnew, relisted}
-use Rattle.modem_steps.specs.Machine.{authStepped, authTold, plainEvent, replied, rejectEvent, rejected, pendedIf, invalidated}
+use Rattle.modem_steps.specs.Machine.{authStepped, authTold, plainEvent}
+use Rattle.modem_events.specs.Events.{replied, rejectEvent, rejected, pendedIf, invalidated}
 use Rattle.modem_steps.specs.Clock.{authTimerEvent, tekTimerEvent, authFired, slotFired, slotsFired, clocked}
 use Rattle.modem.proofs.KeptSteps.{set-cases}
 

@@ -31,11 +31,11 @@ use Rattle.modem_steps.specs.Slots.{slotOfSaid}
 use Rattle.modem_steps.specs.Relist.{descriptorAt}
 use Rattle.modem_steps.specs.Machine.{plainEvent}
 use Rattle.modem_steps.specs.Clock.{clocked}
-use Rattle.modem_steps.specs.Receive.{saidKnown, fieldsIn, received}
-use Rattle.modem.specs.Limits.{modemFits}
+use Rattle.modem_receive.specs.Receive.{saidKnown, fieldsIn, received}
+use Rattle.modem_limits.specs.Limits.{modemFits}
 use Rattle.modem.specs.Messages.{outOctets}
 use Rattle.modem.proofs.AskedLaws.{takeable}
-use Rattle.modem.proofs.LimitsLaws.{limits-of, slot-said, auth-in, by-four}
+use Rattle.modem_limits.proofs.LimitsLaws.{limits-of, slot-said, auth-in, by-four}
 use Rattle.modem.specs.Messages.{OutFits}
 use Rattle.modem.proofs.OutLaws.{out-short}
 use Rattle.modem.proofs.SentLaws.{Sayable, plain-sends, clocked-sends, Heard, received-sends}

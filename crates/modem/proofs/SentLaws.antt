@@ -20,17 +20,18 @@ use Rattle.machines.specs.declared.tek.TekStep.{TekStep}
 use Rattle.machines.specs.Transitions.{A, D, blank, authorizationNext}
 use Rattle.machines.specs.Timers.{isDue}
 use Rattle.machines.specs.Tek.{tekStepOf}
-use Rattle.machines.specs.Authorization.{authStepOf}
+use Rattle.authorization_machine.specs.Authorization.{authStepOf}
 use Rattle.modem_steps.specs.declared.state.Modem.{Modem}
 use Rattle.modem_steps.specs.declared.state.Work.{Work}
 use Rattle.modem_steps.specs.State.{withClock, pastTek, noTek, slotAt, pushed, starting}
 use Rattle.modem_steps.specs.Slots.{tekMoment, steppedAt, toldReply, told, toldAll, slotOfSaid, slotAsking}
 use Rattle.modem_steps.specs.Relist.{descriptorAt, lists, emptied, placed, appended, keptIf, keptOne, keptTo, freshTek, startedIf, startedOne, startedTo, listedAnew, relisted}
-use Rattle.modem_steps.specs.Machine.{authMoment, authStepped, authTold, plainEvent, replied, rejectEvent, rejected, pendedIf, invalidated}
+use Rattle.modem_steps.specs.Machine.{authMoment, authStepped, authTold, plainEvent}
+use Rattle.modem_events.specs.Events.{replied, rejectEvent, rejected, pendedIf, invalidated}
 use Rattle.modem_steps.specs.Clock.{authTimerEvent, tekTimerEvent, authFired, slotFired, slotsFired, clocked}
-use Rattle.modem_steps.specs.Receive.{received}
+use Rattle.modem_receive.specs.Receive.{received}
 use Rattle.modem.specs.Messages.{OutFits}
-use Rattle.modem.proofs.ReceiveLaws.{by-received}
+use Rattle.modem_receive.proofs.ReceiveLaws.{by-received}
 use Rattle.modem.proofs.OutLaws.{tek-sends, tek-said, auth-informs, auth-requests, auth-ak, out-none, out-wider, pushed-fits}
 
 -- ---- what messages carry is in range

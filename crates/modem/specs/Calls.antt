@@ -2,8 +2,9 @@
 use Prim.Native.Nat.{ℕ}
 use mathlib.Core.Bool.{Bool, _&&_}
 use mathlib.Core.List.{List, [], _∷_, _++_}
-use lib.Dec.{leb, ltb}
+use lib.Dec.{leb}
 use lib.ListN.{length}
+use Rattle.keys.specs.Addresses.{saidFits, addressFits}
 use Rattle.keys.specs.declared.refusal.Answer.{Answer}
 use Rattle.keys.specs.declared.refusal.Answer.the-variants.{Done, Refused}
 use Rattle.keys.specs.declared.refusal.Refusal.{Refusal}
@@ -15,10 +16,10 @@ use Rattle.modem_steps.specs.declared.state.Modem.{Modem}
 use Rattle.modem_steps.specs.declared.state.Work.{Work}
 use Rattle.modem_steps.specs.declared.state.Called.{Called}
 use Rattle.modem_steps.specs.State.{freshOf, starting}
-use Rattle.modem.specs.Limits.{modemFits}
+use Rattle.modem_limits.specs.Limits.{modemFits}
 use Rattle.modem_steps.specs.Machine.{plainEvent}
 use Rattle.modem_steps.specs.Clock.{clocked}
-use Rattle.modem_steps.specs.Receive.{receiveQuestions, received, fieldsIn}
+use Rattle.modem_receive.specs.Receive.{receiveQuestions, received, fieldsIn}
 use Rattle.modem.specs.Messages.{outOctets}
 
 -- What a call gives: a refusal changes and writes nothing
@@ -48,7 +49,7 @@ firstQuestions m lent =
 -- A fresh modem: question 1 of the settings, the address and its own SAID
 unfoldable pub newQuestions : Settings → ℕ → ℕ → List Question
 newQuestions settings address said =
-    record { refusal = OutOfLimits; met = settingsFit settings && ltb address 281474976710656 && leb said 16383 } ∷ []
+    record { refusal = OutOfLimits; met = settingsFit settings && addressFits address && saidFits said } ∷ []
 
 abbrev pub newFor : Answer → Settings → ℕ → ℕ → Called
 newFor Done settings address said = record { answer = Done; modem = freshOf settings address said; count = 0 }

@@ -1,8 +1,7 @@
 -- Laws of the search for a slot.
-use mathlib.Core.Path.{_≡_, refl}
+use mathlib.Core.Path.{_≡_}
 use mathlib.Core.Bool.{Bool, true, false, _&&_}
-use Prim.Native.Nat.{ℕ, _≤_}
-use native.Mathlib.Omega.{arith}
+use Prim.Native.Nat.{ℕ}
 use lib.Dec.{ltb}
 use Rattle.machines.specs.declared.tek.Tek.{Tek}
 use Rattle.modem_steps.specs.declared.state.Modem.{Modem}

@@ -3,4 +3,3 @@ pub mod Slots
 pub mod Relist
 pub mod Machine
 pub mod Clock
-pub mod Receive

@@ -1,7 +1,6 @@
 -- The TEK machines after an Authorization Reply (document 01, "Modem: authorization machine": B-C, D-C).
 use Prim.Native.Nat.{ℕ, zero, suc, _+_}
 use mathlib.Core.Bool.{Bool, cond, _&&_, _||_, not}
-use mathlib.Core.List.{List}
 use lib.Dec.{eqb, ltb, leb}
 use lib.ListN.{getD, set, replicate}
 use Rattle.wire.specs.declared.fields.Descriptor.{Descriptor}

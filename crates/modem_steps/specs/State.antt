@@ -4,12 +4,10 @@ use mathlib.Core.Bool.{cond}
 use mathlib.Core.List.{List, []}
 use lib.Dec.{eqb, leb}
 use lib.ListN.{getD, set, replicate}
-use Rattle.keys.specs.declared.numbers.AkNumber.{AkNumber}
 use Rattle.keys.specs.declared.settings.Settings.{Settings}
 use Rattle.keys.specs.declared.settings.Waits.{Waits}
 use Rattle.keys.specs.declared.traffic.TrafficKey.{TrafficKey}
-use Rattle.machines.specs.declared.authorization.Authorization.{Authorization}
-use Rattle.machines.specs.declared.tek.Pair.{Pair}
+use Rattle.authorization_machine.specs.declared.authorization.Authorization.{Authorization}
 use Rattle.machines.specs.declared.tek.Request.{Request}
 use Rattle.machines.specs.declared.tek.Tek.{Tek}
 use Rattle.machines.specs.Timers.{off}

@@ -1,6 +1,6 @@
 // The clock: due timers fire once each, authorization first, then the TEK machines in slot order.
 ghost use mathlib.Core.Path.{_≡_};
-ghost use Prim.Native.Nat.{_≤_, _<_};
+ghost use Prim.Native.Nat.{_<_};
 ghost use Rattle.modem_steps.specs.State.{Ready, withClock};
 ghost use Rattle.modem_steps.specs.Clock.{authTimerEvent, tekTimerEvent, authFired, slotFired, clocked};
 use crate::state::Modem;

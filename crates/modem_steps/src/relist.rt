@@ -1,8 +1,8 @@
 // The TEK machines after an Authorization Reply.
 ghost use mathlib.Core.Path.{_≡_};
-ghost use Prim.Native.Nat.{_≤_, _<_};
+ghost use Prim.Native.Nat.{_<_};
 ghost use Rattle.modem_steps.specs.State.{Ready};
-ghost use Rattle.modem_steps.specs.Relist.{hasAt, lists, emptied, appended, keptIf, keptOne, keptTo, freshTek, startedIf, startedOne, startedTo, listedAnew, relisted};
+ghost use Rattle.modem_steps.specs.Relist.{hasAt, lists, emptied, appended, keptIf, keptOne, freshTek, startedIf, startedOne, startedTo, listedAnew, relisted};
 use crate::slots::slot_of_said;
 use crate::slots::tek_moment;
 use crate::state::Modem;

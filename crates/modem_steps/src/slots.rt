@@ -1,7 +1,6 @@
 // Telling a TEK machine an event, and finding a slot.
 ghost use mathlib.Core.Path.{_≡_};
 ghost use Prim.Native.Nat.{_≤_, _<_};
-ghost use Rattle.wire.specs.Fields.{noParams};
 ghost use Rattle.modem_steps.specs.State.{Ready};
 ghost use Rattle.modem_steps.specs.Slots.{tekMoment, steppedAt, toldReply, told, toldAll, isWaiting, slotOfSaid, asking, slotAsking};
 use crate::state::Modem;

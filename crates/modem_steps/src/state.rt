@@ -1,10 +1,10 @@
 // The modem's state, the messages of one call, and what a call hands back.
 ghost use mathlib.Core.Path.{_≡_};
 ghost use Rattle.modem_steps.specs.State.{noTek, noOut, pushed, starting, freshOf};
+use authorization_machine::authorization::Authorization;
 use keys::numbers::AkNumber;
 use keys::refusal::Answer;
 use keys::settings::Settings;
-use machines::authorization::Authorization;
 use machines::tek::Request;
 use machines::tek::Tek;
 use machines::tek::no_pair;

@@ -15,15 +15,16 @@ use Rattle.association.specs.declared.record.Assoc.{Assoc}
 use Rattle.association.specs.declared.listing.Listing.{Listing}
 use Rattle.association.specs.declared.search.Probe.the-variants.{OutOfLimits as OutOfLimitsIn}
 use Rattle.records.specs.Records.{firstOf, rolledTo, storedAt}
-use Rattle.headend_steps.specs.declared.state.Entry.{Entry}
-use Rattle.headend_steps.specs.declared.state.HeadEnd.{HeadEnd}
-use Rattle.headend_steps.specs.State.{noKeys}
-use Rattle.headend_steps.specs.Entries.{entriesOf}
-use Rattle.headend_steps.specs.Limits.{addressFits, listingFits, saidsDiffer, isApart, allApart, headFits}
-use Rattle.headend_steps.specs.Search.{halfIn, outOfLimits, oneOf}
+use Rattle.headend_state.specs.declared.state.Entry.{Entry}
+use Rattle.headend_state.specs.declared.state.HeadEnd.{HeadEnd}
+use Rattle.headend_state.specs.State.{noKeys}
+use Rattle.headend_state.specs.Entries.{entriesOf}
+use Rattle.keys.specs.Addresses.{addressFits}
+use Rattle.headend_limits.specs.Limits.{listingFits, saidsDiffer, isApart, allApart, headFits}
+use Rattle.headend_limits.specs.Search.{halfIn, outOfLimits, oneOf}
 use Rattle.headend_steps.specs.Listing.{listQuestions, listAnswer, listFor, listCalled}
 use Rattle.headend_steps.specs.Clock.{clockQuestions, clockAnswer, clockFor, clockCalled}
-use Rattle.headend_steps.specs.Answers.{withKeys}
+use Rattle.headend_answers.specs.Answers.{withKeys}
 use Rattle.headend.specs.Calls.{recordsFor, listOf, listRecords, clockOf, clockRecords}
 
 -- an entry but for its authorization keys

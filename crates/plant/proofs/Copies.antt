@@ -16,7 +16,7 @@ use Rattle.wire.specs.declared.fields.Fields.{Fields}
 use Rattle.wire.specs.Messages.{codeOf}
 use Rattle.wire.specs.Reading.{takenOf}
 use Rattle.machines.specs.declared.tek.Pair.{Pair}
-use Rattle.headend_steps.specs.Limits.{addressFits}
+use Rattle.keys.specs.Addresses.{addressFits}
 use Rattle.plant.specs.World.{Frame}
 use Rattle.plant.specs.Run.{Did}
 use Rattle.plant.proofs.LogLaws.{Log, MadeIn, Grows}

@@ -18,17 +18,17 @@ use Rattle.association.specs.declared.search.Probe.the-variants.{OfSaid}
 use Rattle.records.specs.Records.{firstOf, lookupOf}
 use Rattle.keys.proofs.AnswerLaws.{number-done}
 use Rattle.wire.proofs.HoldsLaws.{never}
-use Rattle.headend_steps.specs.declared.state.HeadEnd.{HeadEnd}
-use Rattle.headend_steps.specs.Search.{outOfLimits, oneOf}
+use Rattle.headend_state.specs.declared.state.HeadEnd.{HeadEnd}
+use Rattle.headend_limits.specs.Search.{outOfLimits, oneOf}
 use Rattle.headend_steps.specs.Listing.{listAnswer, listFor, listCalled}
 use Rattle.headend_steps.specs.Clock.{clockAnswer, clockFor, clockCalled}
-use Rattle.headend_steps.specs.Frames as HF
+use Rattle.headend_frames.specs.Frames as HF
 use Rattle.headend.specs.Calls as Head
 use Rattle.headend.specs.FrameCalls as HeadFrames
-use Rattle.modem.specs.Frames as ModemFrames
+use Rattle.modem_frames.specs.Frames as ModemFrames
 use Rattle.modem_steps.specs.declared.state.Modem.{Modem}
 use Rattle.modem.proofs.PairLaws.{established-keeps, reauth-keeps, receive-keeps, clock-keeps}
-use Rattle.modem.proofs.FrameLaws.{Counted, opened-counts}
+use Rattle.modem_frames.proofs.FrameLaws.{Counted, opened-counts}
 use Rattle.plant.specs.World.{World, Step, list, clock, established, reauth, up, down, sealDown, sealUp, openUp, openDown, clockAnswers, clockedBy}
 use Rattle.plant.specs.Run.{Did, didOf, after, worldAfter, traceFrom}
 use Rattle.plant.specs.Tally.{countIf, hits, tally, isTaken, isCountedRefused, moreBy}

@@ -7,7 +7,7 @@ use Prim.Native.Nat.{ℕ, _+_, _*_, _≤_}
 use Rattle.keys.specs.declared.settings.Settings.{Settings}
 use Rattle.keys.specs.Settings.{settingsFit}
 use Rattle.association.specs.declared.record.Assoc.{Assoc}
-use Rattle.headend_steps.specs.Limits.{addressFits}
+use Rattle.keys.specs.Addresses.{addressFits}
 use Rattle.plant.specs.World.{World, fresh, Step, list, clock, established, reauth, up, down, sealDown, sealUp, openUp, openDown}
 use Rattle.plant.specs.Run.{Did, didOf, after, Allowed, Counts}
 use Rattle.plant.specs.Demand3.{Demand3, Sent, sentBy, AsTold, AllAsTold, Listed}

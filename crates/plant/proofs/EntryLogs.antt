@@ -21,15 +21,15 @@ use Rattle.wire.specs.declared.fields.Receiver.the-variants.{HeadEnd as AtHeadE
 use Rattle.wire.specs.Fields.{noFields}
 use Rattle.wire.specs.Reading.{readOf}
 use Rattle.records.specs.Records.{firstOf, lookupOf}
-use Rattle.headend_steps.specs.declared.state.Entry.{Entry}
-use Rattle.headend_steps.specs.declared.state.HeadEnd.{HeadEnd}
-use Rattle.headend_steps.specs.State.{noEntry}
-use Rattle.headend_steps.specs.Entries.{entriesOf, knownOf, saidAt, suiteAt}
-use Rattle.headend_steps.specs.Search.{outOfLimits, ofRequest}
+use Rattle.headend_state.specs.declared.state.Entry.{Entry}
+use Rattle.headend_state.specs.declared.state.HeadEnd.{HeadEnd}
+use Rattle.headend_state.specs.State.{noEntry}
+use Rattle.headend_state.specs.Entries.{entriesOf, knownOf, saidAt, suiteAt}
+use Rattle.headend_limits.specs.Search.{outOfLimits, ofRequest}
 use Rattle.headend_steps.specs.Listing.{grown}
-use Rattle.headend_steps.specs.Answers.{withKeys, keysAfter, keyAnswer, stateAfter, requestState, requestReaction, reactionOf}
+use Rattle.headend_answers.specs.Answers.{withKeys, keysAfter, keyAnswer, stateAfter, requestState, requestReaction, reactionOf}
 use Rattle.headend_steps.specs.Receive.{receiveAnswer, reactionTo, calledFor, receiveCalled}
-use Rattle.headend_steps.proofs.LimitsLaws.{known-place}
+use Rattle.headend_limits.proofs.LimitsLaws.{known-place}
 use Rattle.headend.specs.Calls.{receiveOf}
 use Rattle.headend.specs.Minting.{pairAt, pairsTo, namedPairs}
 use Rattle.plant.proofs.LogLaws.{Log, logTo, logListed, logsTo, logsListed, to-said, to-suite}

@@ -18,13 +18,13 @@ use Rattle.keys.proofs.TestLaws.{both}
 use Rattle.association.specs.declared.record.Assoc.{Assoc}
 use Rattle.association.specs.Made.{Made, keyOf, recordOf}
 use Rattle.records.specs.Records.{none}
-use Rattle.headend_steps.specs.Limits.{addressFits}
-use Rattle.headend_steps.specs.Frames.{HeadOpened}
+use Rattle.keys.specs.Addresses.{addressFits}
+use Rattle.headend_frames.specs.Frames.{HeadOpened}
 use Rattle.headend.specs.FrameCalls as HeadFrames
 use Rattle.headend.proofs.FrameLaws as HeadLaws
-use Rattle.modem.specs.Frames as ModemFrames
-use Rattle.modem.specs.Frames.{ModemOpened, machineOf}
-use Rattle.modem.proofs.FrameLaws as ModemLaws
+use Rattle.modem_frames.specs.Frames as ModemFrames
+use Rattle.modem_frames.specs.Frames.{ModemOpened, machineOf}
+use Rattle.modem_frames.proofs.FrameLaws as ModemLaws
 use Rattle.modem_steps.specs.Slots.{slotOfSaid}
 use Rattle.plant.specs.World.{World, clock, up, down, Frame}
 use Rattle.plant.specs.Run.{Did}

@@ -3,7 +3,7 @@ use mathlib.Core.Path.{_≡_, refl, sym, _∙_, ap, subst}
 use mathlib.Core.Logic.{inl}
 use mathlib.Core.Bool.{Bool, true, false}
 use mathlib.Core.List.{List, [], _∷_, _++_, List·Memᴰ, List·Memᴰ·head, List·Memᴰ·tail}
-use Prim.Native.Nat.{ℕ, _+_, _<_}
+use Prim.Native.Nat.{ℕ, _<_}
 use native.Mathlib.Omega.{arith}
 use lib.Dec.{eqb}
 use lib.ListN.{getD}
@@ -24,26 +24,25 @@ use Rattle.wire.specs.declared.fields.Receiver.the-variants.{Modem as AtModem}
 use Rattle.wire.specs.Messages.{codeOf}
 use Rattle.wire.specs.Reading.{takenOf}
 use Rattle.wire.proofs.MessageAnswers.{read-answer}
-use Rattle.headend_steps.specs.declared.state.HeadEnd.{HeadEnd}
-use Rattle.headend_steps.specs.Answers.{paramsAt, keyReply}
+use Rattle.headend_state.specs.declared.state.HeadEnd.{HeadEnd}
+use Rattle.headend_answers.specs.Answers.{paramsAt, keyReply}
 use Rattle.headend.specs.Calls as Head
 use Rattle.headend.specs.FrameCalls as HeadFrames
 use Rattle.headend.specs.Minting.{namedPairs, acceptedList}
-use Rattle.headend.specs.Run.{acceptedIf}
 use Rattle.headend.proofs.AnswersSent.{request}
 use Rattle.headend.proofs.AnswerCases.{placeOf}
 use Rattle.headend.proofs.Refused.{list-refused-same}
-use Rattle.headend.proofs.StateLaws.{list-state, clock-state, receive-base}
-use Rattle.headend.proofs.RunLaws.{by-answer, clock-forward}
+use Rattle.headend.proofs.StateLaws.{by-answer, list-state, clock-state, receive-base}
+use Rattle.headend.proofs.SecondLaws.{clock-forward}
 use Rattle.headend.proofs.FrameLaws as HeadLaws
 use Rattle.headend.proofs.FrameAnswers.{up-reply, reply-read, invalid-not-reply, open-same}
 use Rattle.modem.specs.Calls as Mdm
 use Rattle.modem.proofs.AnswerLaws.{read-fields}
 use Rattle.modem.proofs.PairLaws.{clock-pairs, clock-done}
-use Rattle.modem.proofs.FrameKept.{clock-fits}
+use Rattle.modem_frames.proofs.FrameKept.{clock-fits}
 use Rattle.plant.specs.World.{World, Step, list, clock, up, sealDown, openUp, Frame, frameIf, oneIf, clockedBy, clockAnswers}
 use Rattle.plant.specs.Run.{Did, didOf}
-use Rattle.plant.specs.KeysMade.{clockIf}
+use Rattle.plant.specs.KeysMade.{acceptedIf, clockIf}
 use Rattle.plant.proofs.LogLaws.{Log, logsListed, logsTo, grows-same, grows-listed, grows-clocked}
 use Rattle.plant.proofs.MadeRun.{logsBy}
 use Rattle.plant.proofs.Copies.{PairCopied, ParamsSent, ReplySent, FrameOk}

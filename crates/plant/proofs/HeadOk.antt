@@ -20,12 +20,12 @@ use Rattle.association.proofs.RecordLaws.{InLimits}
 use Rattle.wire.proofs.HoldsLaws.{never}
 use Rattle.records.specs.Records.{none, firstOf}
 use Rattle.records.proofs.RecordsLaws.{first-is-hit, passed-hit, less-or-not}
-use Rattle.headend_steps.specs.declared.state.Entry.{Entry}
-use Rattle.headend_steps.specs.declared.state.HeadEnd.{HeadEnd}
-use Rattle.headend_steps.specs.State.{noEntry}
-use Rattle.headend_steps.specs.Entries.{entriesOf, knownOf, lists, listsAt, listsSuite, saidAt, suiteAt}
-use Rattle.headend_steps.proofs.ListingLaws.{listed-at}
-use Rattle.headend_steps.proofs.LimitsLaws.{known-place, known-in, entry-facts}
+use Rattle.headend_state.specs.declared.state.Entry.{Entry}
+use Rattle.headend_state.specs.declared.state.HeadEnd.{HeadEnd}
+use Rattle.headend_state.specs.State.{noEntry}
+use Rattle.headend_state.specs.Entries.{entriesOf, knownOf, lists, listsAt, listsSuite, saidAt, suiteAt}
+use Rattle.headend_limits.proofs.ListingLaws.{listed-at}
+use Rattle.headend_limits.proofs.LimitsLaws.{known-place, known-in, entry-facts}
 use Rattle.headend_steps.proofs.AnswersRead.{ShapedRecord}
 use Rattle.headend.specs.Within.{Within, Recorded}
 use Rattle.headend.proofs.WithinLaws.{within-record}

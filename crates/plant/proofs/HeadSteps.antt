@@ -2,7 +2,7 @@
 use mathlib.Core.Path.{_≡_, refl, sym, _∙_, ap, subst}
 use mathlib.Core.Bool.{true}
 use mathlib.Core.List.{List, [], _++_, map-append, List·Memᴰ}
-use Prim.Native.Nat.{ℕ, _+_}
+use Prim.Native.Nat.{ℕ}
 use native.Mathlib.Omega.{arith}
 use lib.ListN.{length, getD, take, length-set}
 use Rattle.keys.specs.declared.refusal.Answer.the-variants.{Done, Refused}
@@ -18,13 +18,13 @@ use Rattle.association.specs.Made.{Line, listedLines}
 use Rattle.association.proofs.MadeLaws.{Follows}
 use Rattle.records.specs.Records.{none}
 use Rattle.records.proofs.RecordsLaws.{passed-hit}
-use Rattle.headend_steps.specs.declared.state.Entry.{Entry}
-use Rattle.headend_steps.specs.declared.state.HeadEnd.{HeadEnd}
-use Rattle.headend_steps.specs.State.{freshOf, withClock}
-use Rattle.headend_steps.specs.Entries.{entriesOf, knownOf}
+use Rattle.headend_state.specs.declared.state.Entry.{Entry}
+use Rattle.headend_state.specs.declared.state.HeadEnd.{HeadEnd}
+use Rattle.headend_state.specs.State.{freshOf, withClock}
+use Rattle.headend_state.specs.Entries.{entriesOf, knownOf}
 use Rattle.headend_steps.specs.Listing.{grown}
-use Rattle.headend_steps.specs.Search.{oneOf}
-use Rattle.headend_steps.proofs.ListingLaws.{listing-facts, unnamed}
+use Rattle.headend_limits.specs.Search.{oneOf}
+use Rattle.headend_limits.proofs.ListingLaws.{listing-facts, unnamed}
 use Rattle.headend.specs.Calls.{newOf, listOf, listRecords, clockOf, clockRecords, receiveOf}
 use Rattle.headend.specs.Minting.{namedPairs}
 use Rattle.headend.specs.Within.{Within}
@@ -32,9 +32,8 @@ use Rattle.headend.specs.FrameCalls.{openOf}
 use Rattle.headend.proofs.CallsLaws.{AskedList, list-met}
 use Rattle.headend.proofs.KeptLimits.{new-within, list-within, clock-within, receive-within}
 use Rattle.headend.proofs.StateLaws.{list-state, clock-state}
-use Rattle.headend.proofs.MintLaws.{Shows, shows-same, list-shows, clock-shows, receive-shows}
+use Rattle.headend.proofs.MintLaws.{Shows, shows-same, list-shows, clock-shows, receive-shows, fresh-shows}
 use Rattle.headend.proofs.Refused.{list-refused-same}
-use Rattle.headend.proofs.RunShows.{fresh-shows}
 use Rattle.headend.proofs.FrameAnswers.{same-within, open-same}
 use Rattle.plant.proofs.LogLaws.{Log, linesIn, logsTo, logsListed, lines-listed, lines-to, listed-good, to-good}
 use Rattle.plant.proofs.SaidLaws.{saidsIn, Different, each-append, different-append, saids-clocked, saids-listed}

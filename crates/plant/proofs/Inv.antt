@@ -7,7 +7,7 @@ use native.Mathlib.Omega.{arith}
 use Rattle.keys.proofs.ListLaws.{Each, each-snoc}
 use Rattle.modem_steps.specs.declared.state.Modem.{Modem}
 use Rattle.modem_steps.specs.State.{slotAt}
-use Rattle.modem.specs.Limits.{modemFits}
+use Rattle.modem_limits.specs.Limits.{modemFits}
 use Rattle.modem.proofs.PairSteps.{AllPairs}
 use Rattle.plant.specs.World.{World, Step}
 use Rattle.plant.specs.Run.{Did, didOf, after}

@@ -18,6 +18,9 @@ pub mod Records
 pub mod Alike
 pub mod Struck
 pub mod Demand3
+pub mod HeadKept
+pub mod Seconds
+pub mod SameSecond
 pub mod Counts
 pub mod RowsComputing
 pub mod RowsRun
@@ -28,3 +31,5 @@ pub mod RowsResent
 pub mod RowsRolled
 pub mod RowsSixteen
 pub mod RowsListed
+pub mod RowsSecond
+pub mod SentRead

@@ -20,13 +20,13 @@ use Rattle.wire.specs.Messages.{codeOf}
 use Rattle.wire.specs.Fields.{fieldsOf}
 use Rattle.wire.specs.Reading.{takenOf}
 use Rattle.machines.specs.Tek.{keyOf, pairOf}
-use Rattle.modem_steps.specs.Receive.{paramsWide, fieldsIn}
+use Rattle.modem_receive.specs.Receive.{paramsWide, fieldsIn}
 use Rattle.modem.specs.Calls as Mdm
-use Rattle.modem.specs.Frames.{machineOf, sealOf}
+use Rattle.modem_frames.specs.Frames.{machineOf, sealOf}
 use Rattle.modem.proofs.PairLaws.{KeyReplyTaken, replySlot, established-pairs, reauth-pairs, receive-pairs, established-keeps, reauth-keeps, receive-keeps}
-use Rattle.modem.proofs.FrameLaws.{SealFacts, seal-facts}
-use Rattle.modem.proofs.FrameKept.{open-pairs, open-keeps, open-fits, established-fits, reauth-fits, receive-fits}
-use Rattle.headend_steps.specs.Limits.{addressFits}
+use Rattle.modem_frames.proofs.FrameLaws.{SealFacts, seal-facts}
+use Rattle.modem_frames.proofs.FrameKept.{open-pairs, open-keeps, open-fits, established-fits, reauth-fits, receive-fits}
+use Rattle.keys.specs.Addresses.{addressFits}
 use Rattle.plant.specs.World.{World, established, reauth, down, sealUp, openDown, Frame, frameIf}
 use Rattle.plant.specs.Run.{Did, didOf, Copy, Allowed}
 use Rattle.plant.proofs.LogLaws.{Log, MadeIn, grows-same}

@@ -3,14 +3,14 @@
 use mathlib.Core.Path.{_≡_, refl, sym, _∙_, ap, subst}
 use mathlib.Core.Bool.{true}
 use mathlib.Core.List.{List, [], _∷_, _++_, map}
-use Prim.Native.Nat.{ℕ, _+_, _≤_}
+use Prim.Native.Nat.{ℕ, _≤_}
 use Rattle.keys.specs.declared.settings.Settings.{Settings}
 use Rattle.keys.specs.Settings.{halfOf, settingsFit}
 use Rattle.keys.proofs.ListLaws.{each-nil}
 use Rattle.association.specs.declared.record.Assoc.{Assoc}
 use Rattle.association.specs.Made.{Accepted, keysMade, recordOf}
-use Rattle.headend_steps.specs.declared.state.HeadEnd.{HeadEnd}
-use Rattle.headend_steps.specs.Limits.{addressFits}
+use Rattle.headend_state.specs.declared.state.HeadEnd.{HeadEnd}
+use Rattle.keys.specs.Addresses.{addressFits}
 use Rattle.plant.specs.World.{World, fresh, Step}
 use Rattle.plant.specs.Run.{Did, didOf, after, worldAfter, Counts}
 use Rattle.plant.specs.KeysMade.{ofSaid, ShowsLast, acceptedIn, acceptedBy}

@@ -15,29 +15,30 @@ use Rattle.wire.specs.Ranges.{neededOf, among, needs, longestLife, fits, inside
 use Rattle.wire.specs.Reading.{placeOf, takenOf, readOf}
 use Rattle.wire.specs.Writing.{paramsItems, descriptorItems, descriptorsItems, itemsOfType, itemsOfTypes, itemsOf, message, messageOf}
 use Rattle.records.specs.Records.{firstBy, listedRecords}
-use Rattle.machines.specs.Authorization.{authIdentifier, authCounter, authTimer, informsOf, requestsOf, authMoved, authStepOf}
+use Rattle.authorization_machine.specs.Authorization.{authIdentifier, authCounter, authTimer, informsOf, requestsOf, authMoved, authStepOf}
 use Rattle.machines.specs.Tek.{counterAfter, identifierAfter, tekTimer, pairAfter, tekSends, tekMoved, tekStepOf}
 use Rattle.machines.specs.Timers.{isDue}
 use Rattle.machines.specs.Transitions.{nextIn, authorizationTransitions, tekTransitions}
 use Rattle.modem_steps.specs.Clock.{authTimerEvent, tekTimerEvent, authFired, slotFired, slotsFired, clocked}
-use Rattle.modem_steps.specs.Machine.{authStepped, authTold, replied, rejectEvent, rejected, invalidated}
-use Rattle.modem_steps.specs.Receive.{widthsFit, saidKnown, identifierFits, digestHolds, receiveQuestions, received}
+use Rattle.modem_steps.specs.Machine.{authStepped, authTold}
+use Rattle.modem_events.specs.Events.{replied, rejectEvent, rejected, invalidated}
+use Rattle.modem_receive.specs.Receive.{widthsFit, saidKnown, identifierFits, digestHolds, receiveQuestions, received}
 use Rattle.modem_steps.specs.Relist.{lists, emptied, appended, keptIf, keptOne, keptTo, startedIf, startedOne, startedTo, listedAnew, relisted}
 use Rattle.modem_steps.specs.Slots.{steppedAt, toldReply, toldAll, firstSlot}
 use Rattle.modem_steps.specs.State.{pushed}
-use Rattle.headend_steps.specs.Answers.{descriptorAt, keyAnswer, requestAnswer, requestState, reactionOf}
-use Rattle.headend_steps.specs.Authorization.{activeOf, hasNumber, isActive, keysFor}
+use Rattle.headend_answers.specs.Answers.{descriptorAt, keyAnswer, requestAnswer, requestState, reactionOf}
+use Rattle.headend_state.specs.Authorization.{activeOf, hasNumber, isActive, keysFor}
 use Rattle.headend_steps.specs.Clock.{clockQuestions, clockAnswer, clockCalled}
-use Rattle.headend_steps.specs.Entries.{knownFrom, listsSuite}
-use Rattle.headend_steps.specs.Frames.{heldSuits, frameFits, sealAnswer, sealedWith, openAnswer, countedBy, invalidOctets, openedWith}
-use Rattle.headend_steps.specs.Limits.{placeFits, listingFits, newAt, saidsDiffer as headSaidsDiffer, authKeysFit, entryFits, sharesAt, shares, isApart, allApart, entriesFrom, headFits}
+use Rattle.headend_state.specs.Entries.{knownFrom, listsSuite}
+use Rattle.headend_frames.specs.Frames.{heldSuits, frameFits, sealAnswer, sealedWith, openAnswer, countedBy, invalidOctets, openedWith}
+use Rattle.headend_limits.specs.Limits.{placeFits, listingFits, newAt, saidsDiffer as headSaidsDiffer, authKeysFit, entryFits, sharesAt, shares, isApart, allApart, entriesFrom, headFits}
 use Rattle.headend_steps.specs.Listing.{listQuestions, listAnswer, listCalled}
 use Rattle.headend_steps.specs.Receive.{recordSuits, identifierFits as headIdentifierFits, receiveAnswer, answerOctets, receiveCalled, receiveWritten}
 use Rattle.modem.specs.Calls.{eventOf, clockFits, clockOf, receiveOf}
-use Rattle.modem.specs.Frames.{sealAnswer as modemSealAnswer, sealOf, openAnswer as modemOpenAnswer, countedBy as modemCountedBy, openOf}
-use Rattle.modem.specs.Limits.{timerFits, authorizationFits, keyZero, pairHeldFits, longestWait, tekFits, tekZero, slotFits, saidsOfTeks, modemFits}
+use Rattle.modem_frames.specs.Frames.{sealAsked, openAsked, sealAnswer as modemSealAnswer, sealOf, openAnswer as modemOpenAnswer, countedBy as modemCountedBy, openOf}
+use Rattle.modem_limits.specs.Limits.{timerFits, authorizationFits, keyZero, pairHeldFits, longestWait, tekFits, tekZero, slotFits, saidsOfTeks, modemFits}
 use Rattle.modem.specs.Messages.{requestOctets, requestsOctets, outOctets}
 
 unfoldable pub computing : Unit {0}
-unfolding serves openingOf padded octetsOf allZero zeroPast oneMore lifeFits tekTimesFit akTimesFit waitFits waitsFit settingsFit widthOf keyFits follows pairFits freshOf namesOf deadlinesFit recordFits rolledOf itemsWith items values countOf valueAt lastFrom allOf startFrom be16 be32 two four attrOctets octets keyOctets paramsOf descriptorOf carried carriedCount fieldsOf lengthOf bodyOf isWhole receives asTold insidesTold compoundsTold digestLast isNone different saidsIn saidsDiffer inOrder pairInOrder complete messageQuestions messageAnswer neededOf among needs longestLife fits insideGood insideSound compound good sound placeOf takenOf readOf paramsItems descriptorItems descriptorsItems itemsOfType itemsOfTypes itemsOf message messageOf firstBy listedRecords authIdentifier authCounter authTimer informsOf requestsOf authMoved authStepOf counterAfter identifierAfter tekTimer pairAfter tekSends tekMoved tekStepOf isDue nextIn authorizationTransitions tekTransitions authTimerEvent tekTimerEvent authFired slotFired slotsFired clocked authStepped authTold replied rejectEvent rejected invalidated widthsFit saidKnown identifierFits digestHolds receiveQuestions received lists emptied appended keptIf keptOne keptTo startedIf startedOne startedTo listedAnew relisted steppedAt toldReply toldAll firstSlot pushed descriptorAt keyAnswer requestAnswer requestState reactionOf activeOf hasNumber isActive keysFor clockQuestions clockAnswer clockCalled knownFrom listsSuite heldSuits frameFits sealAnswer sealedWith openAnswer countedBy invalidOctets openedWith placeFits listingFits newAt headSaidsDiffer authKeysFit entryFits sharesAt shares isApart allApart entriesFrom headFits listQuestions listAnswer listCalled recordSuits headIdentifierFits receiveAnswer answerOctets receiveCalled receiveWritten eventOf clockFits clockOf receiveOf modemSealAnswer sealOf modemOpenAnswer modemCountedBy openOf timerFits authorizationFits keyZero pairHeldFits longestWait tekFits tekZero slotFits saidsOfTeks modemFits requestOctets requestsOctets outOctets
+unfolding serves openingOf padded octetsOf allZero zeroPast oneMore lifeFits tekTimesFit akTimesFit waitFits waitsFit settingsFit widthOf keyFits follows pairFits freshOf namesOf deadlinesFit recordFits rolledOf itemsWith items values countOf valueAt lastFrom allOf startFrom be16 be32 two four attrOctets octets keyOctets paramsOf descriptorOf carried carriedCount fieldsOf lengthOf bodyOf isWhole receives asTold insidesTold compoundsTold digestLast isNone different saidsIn saidsDiffer inOrder pairInOrder complete messageQuestions messageAnswer neededOf among needs longestLife fits insideGood insideSound compound good sound placeOf takenOf readOf paramsItems descriptorItems descriptorsItems itemsOfType itemsOfTypes itemsOf message messageOf firstBy listedRecords authIdentifier authCounter authTimer informsOf requestsOf authMoved authStepOf counterAfter identifierAfter tekTimer pairAfter tekSends tekMoved tekStepOf isDue nextIn authorizationTransitions tekTransitions authTimerEvent tekTimerEvent authFired slotFired slotsFired clocked authStepped authTold replied rejectEvent rejected invalidated widthsFit saidKnown identifierFits digestHolds receiveQuestions received lists emptied appended keptIf keptOne keptTo startedIf startedOne startedTo listedAnew relisted steppedAt toldReply toldAll firstSlot pushed descriptorAt keyAnswer requestAnswer requestState reactionOf activeOf hasNumber isActive keysFor clockQuestions clockAnswer clockCalled knownFrom listsSuite heldSuits frameFits sealAnswer sealedWith openAnswer countedBy invalidOctets openedWith placeFits listingFits newAt headSaidsDiffer authKeysFit entryFits sharesAt shares isApart allApart entriesFrom headFits listQuestions listAnswer listCalled recordSuits headIdentifierFits receiveAnswer answerOctets receiveCalled receiveWritten eventOf clockFits clockOf receiveOf sealAsked openAsked modemSealAnswer sealOf modemOpenAnswer modemCountedBy openOf timerFits authorizationFits keyZero pairHeldFits longestWait tekFits tekZero slotFits saidsOfTeks modemFits requestOctets requestsOctets outOctets
 computing = tt

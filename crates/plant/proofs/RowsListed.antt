@@ -3,7 +3,7 @@ use mathlib.Core.Path.{_≡_, refl, ap}
 use mathlib.Core.Bool.{Bool, true, false, _&&_, _||_}
 use mathlib.Core.Logic.{_⊎_, inl, inr}
 use mathlib.Core.List.{List, [], _∷_, _++_, List·Memᴰ, List·Memᴰ·head, List·Memᴰ·tail}
-use Prim.Native.Nat.{ℕ, _+_}
+use Prim.Native.Nat.{ℕ, _+_, _*_, _≤_}
 use lib.Dec.{leb, eqb}
 use lib.ListN.{length}
 use borrow.Author.Tests.{leb-true, eqb-true}
@@ -11,14 +11,16 @@ use Rattle.keys.proofs.TestLaws.{both, either}
 use Rattle.wire.proofs.HoldsLaws.{never}
 use Rattle.plant.specs.World.{World, Step, list, clock, established, reauth, up, down, sealDown, sealUp, openUp, openDown, Frame, Opening}
 use Rattle.plant.specs.Run.{Did, didOf, after}
-use Rattle.plant.specs.Claim.{Delivers}
+use Rattle.plant.specs.Claim.{Delivers, Agrees}
 use Rattle.plant.specs.Demand3.{Sent, sentBy, SentCopy, FrameCopy, UpAsTold, AsTold, AllAsTold, Listed}
 use Rattle.plant.proofs.RowsComputing.{computing}
 use Rattle.plant.proofs.RowsRun.{sameOctets, same-octets, isCopy, is-copy}
-use Rattle.plant.proofs.RowsSetUp.{start}
+use Rattle.plant.proofs.RowsSetUp.{settings, start}
 use Rattle.plant.proofs.RowsWidths.{exchange, frames}
 use Rattle.plant.proofs.RowsResent.{resent}
-use Rattle.plant.proofs.RowsLate.{late}
+use Rattle.plant.proofs.RowsRolled.{rolled}
+use Rattle.plant.proofs.RowsSixteen.{sixteen}
+use Rattle.plant.proofs.RowsLate.{late, soon, late-fails}
 
 -- ---- a copy of what the modem sent
 abbrev isSent : ℕ → ℕ → List ℕ → List Sent → Bool
@@ -173,7 +175,8 @@ all-told D F (s ∷ ss) sent earlier w e =
     let p = both (stepTold D F sent earlier w s) (allTold D F (sent ++ sentBy w s) (earlier ++ (didOf w s ∷ [])) (after w s) ss) e in
     (step-told D F sent earlier w s (p .0), all-told D F ss (sent ++ sentBy w s) (earlier ++ (didOf w s ∷ [])) (after w s) (p .1))
 
--- ---- both widths; a resent request whose two replies arrive; and document 01's own list with D = 12,600 and F = 1
+-- ---- both widths; a resent request whose two replies arrive; a rollover; generation 16; and document 01's own list with D = 12,600 and F = 0
+-- or 1
 pub widths-listed : Listed 0 0 start (exchange ++ frames)
 unfolding computing
 widths-listed = record { first = (refl, refl, refl); steps = all-told 0 0 (exchange ++ frames) [] [] start refl }
@@ -182,6 +185,22 @@ pub resent-listed : Listed 10 0 start resent
 unfolding computing
 resent-listed = record { first = (refl, refl, refl); steps = all-told 10 0 resent [] [] start refl }
 
+pub rolled-listed : Listed 0 0 start rolled
+unfolding computing
+rolled-listed = record { first = (refl, refl, refl); steps = all-told 0 0 rolled [] [] start refl }
+
+pub sixteen-listed : Listed 0 0 start sixteen
+unfolding computing
+sixteen-listed = record { first = (refl, refl, refl); steps = all-told 0 0 sixteen [] [] start refl }
+
+pub soon-listed : Listed 12600 0 start soon
+unfolding computing
+soon-listed = record { first = (refl, refl, refl); steps = all-told 12600 0 soon [] [] start refl }
+
 pub late-listed : Listed 12600 1 start late
 unfolding computing
 late-listed = record { first = (refl, refl, refl); steps = all-told 12600 1 late [] [] start refl }
+
+-- So with one second more than 7 L the claim is false of document 01's own lists too
+pub bound-is-right-listed : ((D F : ℕ) → D + F ≤ 7 * settings .tek .life + 1 → (ss : List Step) → Listed D F start ss → Agrees F [] start ss) → ⊥
+bound-is-right-listed claim = late-fails (claim 12600 1 (leb-true 12601 12601 refl) late late-listed)

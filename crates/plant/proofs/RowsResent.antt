@@ -6,9 +6,8 @@ use mathlib.Core.List.{List, [], _∷_, _++_}
 use Prim.Native.Nat.{ℕ}
 use lib.ListN.{replicate}
 use Rattle.plant.specs.World.{Step, clock, up, down}
-use Rattle.plant.specs.Run.{Counts}
 use Rattle.plant.proofs.RowsComputing.{computing}
-use Rattle.plant.proofs.RowsRun.{reportOf, all-count}
+use Rattle.plant.proofs.RowsRun.{reportOf}
 use Rattle.plant.proofs.RowsSetUp.{start, key, information, request, keyRequest, replyTwo, frame, opening}
 use Rattle.plant.proofs.RowsWidths.{reply7, reply8, authorized, frames}
 
@@ -76,7 +75,3 @@ pub resent-reports : reportOf start resent
     }
 unfolding computing
 resent-reports = refl
-
-pub resent-counts : Counts 10 [] start resent
-unfolding computing
-resent-counts = all-count 10 [] start resent refl

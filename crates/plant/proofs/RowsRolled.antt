@@ -6,9 +6,8 @@ use mathlib.Core.List.{List, [], _∷_, _++_}
 use Prim.Native.Nat.{ℕ}
 use lib.ListN.{replicate}
 use Rattle.plant.specs.World.{Step, clock, up, down, sealDown, sealUp, openUp, openDown}
-use Rattle.plant.specs.Run.{Counts}
 use Rattle.plant.proofs.RowsComputing.{computing}
-use Rattle.plant.proofs.RowsRun.{reportOf, all-count}
+use Rattle.plant.proofs.RowsRun.{reportOf}
 use Rattle.plant.proofs.RowsSetUp.{start, counting, key, information, request, keyRequest, replyTwo, frame, opening}
 use Rattle.plant.proofs.RowsWidths.{reply7, reply8, exchange}
 
@@ -119,7 +118,3 @@ pub rolled-reports : reportOf start rolled
     }
 unfolding computing
 rolled-reports = refl
-
-pub rolled-counts : Counts 0 [] start rolled
-unfolding computing
-rolled-counts = all-count 0 [] start rolled refl

@@ -5,9 +5,8 @@ use mathlib.Core.Bool.{true}
 use mathlib.Core.List.{List, [], _∷_, _++_}
 use Prim.Native.Nat.{ℕ}
 use Rattle.plant.specs.World.{Step, list, established, up, down, sealDown, sealUp, openUp, openDown}
-use Rattle.plant.specs.Run.{Counts}
 use Rattle.plant.proofs.RowsComputing.{computing}
-use Rattle.plant.proofs.RowsRun.{reportOf, all-count}
+use Rattle.plant.proofs.RowsRun.{reportOf}
 use Rattle.plant.proofs.RowsSetUp.{start, oneSaid, stamped, turn, turns, key, information, request, keyRequest, replyOne, replyFirst, frame, opening}
 
 -- The Key Reply of second 13,500: generations 15 and 16, with the numbers 15 and 0 and the lives 900 and 1,800
@@ -66,7 +65,3 @@ pub sixteen-reports : reportOf start sixteen
     }
 unfolding computing
 sixteen-reports = refl
-
-pub sixteen-counts : Counts 0 [] start sixteen
-unfolding computing
-sixteen-counts = all-count 0 [] start sixteen refl

@@ -4,9 +4,8 @@ use mathlib.Core.Bool.{true}
 use mathlib.Core.List.{List, [], _∷_, _++_}
 use Prim.Native.Nat.{ℕ}
 use Rattle.plant.specs.World.{Step, list, established, up, down, sealDown, sealUp, openUp, openDown}
-use Rattle.plant.specs.Run.{Counts}
 use Rattle.plant.proofs.RowsComputing.{computing}
-use Rattle.plant.proofs.RowsRun.{reportOf, all-count}
+use Rattle.plant.proofs.RowsRun.{reportOf}
 use Rattle.plant.proofs.RowsSetUp.{start, twoSaids, counting, key, information, request, keyRequest, replyTwo, frame, opening}
 
 -- The Key Replies of second 0: generations 0 and 1, with the lives 900 and 1,800
@@ -85,7 +84,3 @@ pub widths-reports : reportOf start (exchange ++ frames)
     }
 unfolding computing
 widths-reports = refl
-
-pub widths-counts : Counts 0 [] start (exchange ++ frames)
-unfolding computing
-widths-counts = all-count 0 [] start (exchange ++ frames) refl

@@ -13,12 +13,12 @@ use Rattle.keys.specs.declared.refusal.Answer.the-variants.{Done}
 use Rattle.keys.specs.Settings.{halfOf, settingsFit}
 use Rattle.keys.proofs.ListLaws.{each-nil}
 use Rattle.association.specs.declared.record.Assoc.{Assoc}
-use Rattle.headend_steps.specs.Limits.{addressFits}
-use Rattle.headend_steps.specs.State as HeadState
-use Rattle.headend_steps.proofs.LimitsLaws.{head-facts}
+use Rattle.keys.specs.Addresses.{addressFits}
+use Rattle.headend_state.specs.State as HeadState
+use Rattle.headend_limits.proofs.LimitsLaws.{head-facts}
 use Rattle.headend.proofs.FrameAnswers as HeadAnswers
 use Rattle.modem.specs.Calls.{newQuestions, newOf}
-use Rattle.modem.specs.Limits.{modemFits}
+use Rattle.modem_limits.specs.Limits.{modemFits}
 use Rattle.modem_steps.specs.declared.state.Modem.{Modem}
 use Rattle.modem_steps.specs.State as ModemState
 use Rattle.modem.proofs.CallLaws.{new-fits}

@@ -15,7 +15,7 @@ use Rattle.association.specs.declared.record.Assoc.{Assoc}
 use Rattle.association.specs.Made.{keysMade}
 use Rattle.wire.specs.Messages.{lengthOf}
 use Rattle.modem.specs.Calls as Mdm
-use Rattle.modem.specs.Frames as ModemFrames
+use Rattle.modem_frames.specs.Frames as ModemFrames
 use Rattle.plant.specs.World.{World, fresh, Step, list, clock, established, reauth, up, down, sealDown, sealUp, openUp, openDown, Frame, Opening, stepOf, clockAnswers}
 use Rattle.plant.specs.Run.{Did, didOf, after, worldAfter, Copy}
 use Rattle.plant.specs.Claim.{Delivers, Agrees}

@@ -1,24 +1,29 @@
 -- The keys made by a list of steps (document 01, "The steps of demand 3"): worked out by the minting rules from the accepted listings and clock
--- calls with their lent material alone, from no record and no end's state but for which calls were accepted, and when: a listing's second is the
--- clock, which is that of the last accepted clock call.
+-- calls with their lent material alone, from no record and no end's state but for which calls were accepted. A listing's second is read off the
+-- head-end's clock; it is that of the last accepted clock call before it, or 0 (`SecondsTold` below, `seconds-told` in proofs/Seconds.antt).
 use mathlib.Core.Path.{_≡_}
 use mathlib.Core.Bool.{Bool, true, false}
 use mathlib.Core.List.{List, [], _∷_, _++_, map}
 use Prim.Native.Nat.{ℕ, _<_}
 use lib.Dec.{eqb}
 use lib.ListN.{getD, take}
+use Rattle.keys.specs.declared.refusal.Answer.{Answer}
+use Rattle.keys.specs.declared.refusal.Answer.the-variants.{Done, Refused}
 use Rattle.association.specs.declared.record.Assoc.{Assoc}
 use Rattle.association.specs.Made.{Made, SaidSuite, Accepted, keyOf, keysMade}
 use Rattle.association.specs.Made.{listing as madeByListing, clock as madeByClock}
 use Rattle.records.specs.Records.{none}
-use Rattle.headend_steps.specs.declared.state.HeadEnd.{HeadEnd}
+use Rattle.headend_state.specs.declared.state.HeadEnd.{HeadEnd}
 use Rattle.headend.specs.Calls as Head
 use Rattle.headend.specs.Minting.{acceptedList, acceptedClock}
-use Rattle.headend.specs.Run.{acceptedIf}
 use Rattle.plant.specs.World.{World, Step, list, clock, established, reauth, up, down, sealDown, sealUp, openUp, openDown, clockAnswers}
 use Rattle.plant.specs.Run.{after}
 
 -- ---- the accepted listings and clock calls of a list, in order; a clock call is accepted where both ends accept it
+abbrev pub acceptedIf : Answer → Accepted → List Accepted
+acceptedIf Done c = c ∷ []
+acceptedIf (Refused r) c = []
+
 abbrev pub clockIf : Bool → ℕ → List ℕ → List Accepted
 clockIf true t m = acceptedClock t m ∷ []
 clockIf false t m = []
@@ -38,6 +43,12 @@ acceptedIn w (openDown direction address said number tek vector lent) = []
 abbrev pub acceptedBy : World → List Step → List Accepted
 acceptedBy w [] = []
 acceptedBy w (s ∷ ss) = acceptedIn w s ++ acceptedBy (after w s) ss
+
+-- Each listing's second is that of the last clock call before it, and `now` where there is none
+abbrev pub SecondsTold : ℕ → List Accepted → Type 0
+SecondsTold now [] = Unit {0}
+SecondsTold now (madeByListing t ss m ∷ cs) = (t ≡ now) × SecondsTold now cs
+SecondsTold now (madeByClock t m ∷ cs) = SecondsTold t cs
 
 -- ---- all but the listings and clock calls struck out
 abbrev pub keptStep : Step → List Step

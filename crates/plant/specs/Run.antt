@@ -5,14 +5,13 @@ use mathlib.Core.List.{List, [], _∷_, _++_, List·Memᴰ}
 use Prim.Native.Nat.{ℕ, _+_, _≤_}
 use Rattle.plant.specs.World.{World, Step, list, clock, established, reauth, up, down, sealDown, sealUp, openUp, openDown, Given, stepOf}
 
--- A step of the trace: the step, what it gave, and the clock then
+-- A step of the trace: what it gave, and the clock then
 pub record Did : Type 0 where
-  pub step : Step
   pub given : Given
   pub clock : ℕ
 
 abbrev pub didOf : World → Step → Did
-didOf w s = record { step = s; given = stepOf w s .given; clock = stepOf w s .world .head .clock }
+didOf w s = record { given = stepOf w s .given; clock = stepOf w s .world .head .clock }
 
 abbrev pub after : World → Step → World
 after w s = stepOf w s .world

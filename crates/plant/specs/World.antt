@@ -12,16 +12,16 @@ use Rattle.keys.specs.Refusal.{answerNumber, isDone}
 use Rattle.keys.specs.Sealing.{KeyOut, Sealed}
 use Rattle.association.specs.declared.listing.Listing.{Listing}
 use Rattle.association.specs.declared.record.Assoc.{Assoc}
-use Rattle.headend_steps.specs.declared.state.HeadEnd.{HeadEnd}
-use Rattle.headend_steps.specs.State as HeadState
-use Rattle.headend_steps.specs.Frames.{HeadOpened}
+use Rattle.headend_state.specs.declared.state.HeadEnd.{HeadEnd}
+use Rattle.headend_state.specs.State as HeadState
+use Rattle.headend_frames.specs.Frames.{HeadOpened}
 use Rattle.headend.specs.Calls as Head
 use Rattle.headend.specs.FrameCalls as HeadFrames
 use Rattle.modem_steps.specs.declared.state.Modem.{Modem}
 use Rattle.modem_steps.specs.State as ModemState
 use Rattle.modem.specs.Calls as Mdm
-use Rattle.modem.specs.Frames as ModemFrames
-use Rattle.modem.specs.Frames.{ModemOpened}
+use Rattle.modem_frames.specs.Frames as ModemFrames
+use Rattle.modem_frames.specs.Frames.{ModemOpened}
 
 -- One head-end with its records, and one modem
 pub record World : Type 0 where

@@ -11,8 +11,8 @@ use Rattle.wire.specs.declared.fields.Receiver.{Receiver}
 use Rattle.wire.specs.declared.fields.Receiver.the-variants.{HeadEnd, Modem}
 use Rattle.wire.specs.Ranges.{neededOf, needs, among}
 use Rattle.wire.specs.Messages.{receives}
-use Rattle.reader.specs.Slots.{typeSlot, bodySlot}
-use Rattle.reader.proofs.HitLaws.{true-not-false, allTold, among-all}
+use Rattle.holders.specs.Slots.{typeSlot, bodySlot}
+use Rattle.holders.proofs.HitLaws.{true-not-false, allTold, among-all}
 
 pub data Code : ℕ → Type 0 where
   code-4 : Code 4

@@ -1,11 +1,3 @@
-pub mod BoolLaws
-pub mod KeyLaws
-pub mod ItemLaws
-pub mod TurnLaws
-pub mod SlotLaws
-pub mod HitLaws
-pub mod InsideLaws
-pub mod BodyLaws
 pub mod PlaceLaws
 pub mod CodeLaws
 pub mod SoundLaws

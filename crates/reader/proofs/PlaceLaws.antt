@@ -10,15 +10,15 @@ use borrow.Author.Tests.{leb-true, leb-false, ltb-true, ltb-false, eq-eqb, ne-eq
 use Rattle.wire.specs.declared.fields.Place.{Place}
 use Rattle.wire.specs.Attributes.{Item, attr, cut, items, keepValue, values, countOf, valueAt}
 use Rattle.wire.specs.Reading.{noPlace}
-use Rattle.reader.specs.declared.attribute.Next.{Next}
-use Rattle.reader.specs.declared.attribute.Next.the-variants.{Attr, Cut, End}
-use Rattle.reader.specs.declared.pass.Body.{Body}
-use Rattle.reader.specs.Next.{nextAt}
-use Rattle.reader.specs.Slots.{bodySlot}
-use Rattle.reader.specs.Pass.{bodyTurn, bodyFrom, noBody, bodyPass}
-use Rattle.reader.specs.Compounds.{partOf, insideAt}
-use Rattle.reader.proofs.ItemLaws.{At, nextAt-at, items-past, found-length}
-use Rattle.reader.proofs.BodyLaws.{turnBy}
+use Rattle.attributes.specs.declared.attribute.Next.{Next}
+use Rattle.attributes.specs.declared.attribute.Next.the-variants.{Attr, Cut, End}
+use Rattle.holders.specs.declared.pass.Body.{Body}
+use Rattle.attributes.specs.Next.{nextAt}
+use Rattle.holders.specs.Slots.{bodySlot}
+use Rattle.holders.specs.Pass.{bodyTurn, bodyFrom, noBody, bodyPass}
+use Rattle.holders.specs.Compounds.{partOf, insideAt}
+use Rattle.attributes.proofs.ItemLaws.{At, nextAt-at, items-past, found-length}
+use Rattle.holders.proofs.BodyLaws.{turnBy}
 
 -- ---- the places of all values of a type
 abbrev keepPlace : Bool → Place → List Place → List Place

@@ -18,10 +18,10 @@ use Rattle.wire.specs.Ranges.{sound}
 use Rattle.wire.specs.Messages.{codeOf, lengthOf, bodyOf, isWhole, receives, complete, question8, question9, messageQuestions, messageAnswer}
 use Rattle.wire.specs.Fields.{fieldsOf}
 use Rattle.wire.specs.Reading.{placeOf, takenOf, readOf}
-use Rattle.reader.specs.declared.pass.Body.{Body}
-use Rattle.reader.specs.declared.compound.Compounds.{Compounds}
-use Rattle.reader.specs.Pass.{bodyPass}
-use Rattle.reader.specs.Compounds.{compoundsOf}
+use Rattle.holders.specs.declared.pass.Body.{Body}
+use Rattle.holders.specs.declared.compound.Compounds.{Compounds}
+use Rattle.holders.specs.Pass.{bodyPass}
+use Rattle.holders.specs.Compounds.{compoundsOf}
 use Rattle.reader.specs.Taken.{toldIn, takenFrom, refusedReading}
 use Rattle.reader.proofs.CodeLaws.{Code, received-code}
 use Rattle.reader.proofs.SoundLaws.{compoundsIn, sound-code}

@@ -8,13 +8,13 @@ use lib.Dec.{leb, eqb}
 use borrow.Author.Tests.{eqb-true}
 use Rattle.wire.specs.Attributes.{Item, attr, cut, items, values, valueAt, countOf, allOf, itemsWith}
 use Rattle.wire.specs.Ranges.{needs, among, neededOf, fits, compound, good, insideSound, sound}
-use Rattle.reader.specs.declared.compound.Compounds.{Compounds}
-use Rattle.reader.specs.Pass.{bodyPass, insidePass}
-use Rattle.reader.specs.Compounds.{pairOf, restSound, fourOf, compoundsOf}
-use Rattle.reader.proofs.BoolLaws.{and-four, and-pairs}
-use Rattle.reader.proofs.InsideLaws.{sound-13, sound-23}
-use Rattle.reader.proofs.HitLaws.{true-not-false}
-use Rattle.reader.proofs.BodyLaws.{keptBy, allSound, sound-is}
+use Rattle.holders.specs.declared.compound.Compounds.{Compounds}
+use Rattle.holders.specs.Pass.{bodyPass, insidePass}
+use Rattle.holders.specs.Compounds.{pairOf, restSound, fourOf, compoundsOf}
+use Rattle.holders.proofs.BoolLaws.{and-four, and-pairs}
+use Rattle.holders.proofs.InsideLaws.{sound-13, sound-23}
+use Rattle.holders.proofs.HitLaws.{true-not-false}
+use Rattle.holders.proofs.BodyLaws.{keptBy, allSound, sound-is}
 use Rattle.reader.proofs.PlaceLaws.{upTo5, count-is, inside-0, inside-1, inside-2, inside-3}
 use Rattle.reader.proofs.CodeLaws.{Code, code-4, code-5, code-6, code-7, code-8, code-9, code-10, code-11, code-12, Plain, plain-4, plain-6, plain-7, plain-9, plain-10, plain-11, plain-12, six-8, six-5, no-six}
 

@@ -15,14 +15,14 @@ use Rattle.wire.specs.Attributes.{Item, items, itemsWith, values, valueAt, coun
 use Rattle.wire.specs.Ranges.{neededOf, needs, among}
 use Rattle.wire.specs.Fields.{keyOctets, paramsOf, descriptorOf, carried, carriedCount, fieldsOf, noParams, noDescriptor}
 use Rattle.wire.specs.Reading.{noPlace, placeOf}
-use Rattle.reader.specs.declared.compound.Compounds.{Compounds}
-use Rattle.reader.specs.Slots.{typeSlot, noSlot}
-use Rattle.reader.specs.Pass.{bodyPass}
-use Rattle.reader.specs.Compounds.{pairOf, fourOf, compoundsOf}
+use Rattle.holders.specs.declared.compound.Compounds.{Compounds}
+use Rattle.holders.specs.Slots.{typeSlot, noSlot}
+use Rattle.holders.specs.Pass.{bodyPass}
+use Rattle.holders.specs.Compounds.{pairOf, fourOf, compoundsOf}
 use Rattle.reader.specs.Taken.{once, toldIn, firstOf, placeIn, takenFrom}
-use Rattle.reader.proofs.SlotLaws.{slotOf, placed}
-use Rattle.reader.proofs.HitLaws.{true-not-false, type-10, type-12, type-9, type-16, type-7, type-11}
-use Rattle.reader.proofs.BodyLaws.{slot-at}
+use Rattle.holders.proofs.SlotLaws.{slotOf, placed}
+use Rattle.holders.proofs.HitLaws.{true-not-false, type-10, type-12, type-9, type-16, type-7, type-11}
+use Rattle.holders.proofs.BodyLaws.{slot-at}
 use Rattle.reader.proofs.PlaceLaws.{upTo5, count-is, inside-0, inside-1, inside-2, inside-3}
 use Rattle.reader.proofs.CodeLaws.{Code, code-4, code-5, code-6, code-7, code-8, code-9, code-10, code-11, code-12, six-8, six-5}
 use Rattle.reader.proofs.SoundLaws.{compoundsIn}

@@ -11,13 +11,13 @@ use Rattle.wire.specs.Attributes.{Item, items, values, valueAt, countOf, lastTy
 use Rattle.wire.specs.Ranges.{neededOf, needs, among}
 use Rattle.wire.specs.Messages.{asTold, insidesTold, compoundsTold, digestLast, isNone, different, saidIn, saidsIn, saidsDiffer, inOrder, pairInOrder, complete}
 use Rattle.wire.specs.Fields.{paramsOf, descriptorOf}
-use Rattle.reader.specs.Slots.{typeSlot}
-use Rattle.reader.specs.Pass.{bodyPass}
-use Rattle.reader.specs.Compounds.{descriptorRead, inOrderOf, pairOf, fourTold, fourOf, compoundsOf}
+use Rattle.holders.specs.Slots.{typeSlot}
+use Rattle.holders.specs.Pass.{bodyPass}
+use Rattle.holders.specs.Compounds.{descriptorRead, inOrderOf, pairOf, fourTold, fourOf, compoundsOf}
 use Rattle.reader.specs.Taken.{once, toldIn}
-use Rattle.reader.proofs.SlotLaws.{once-is}
-use Rattle.reader.proofs.HitLaws.{type-10, type-12, type-9, type-16, type-7, type-11}
-use Rattle.reader.proofs.BodyLaws.{slot-at, last-is}
+use Rattle.holders.proofs.SlotLaws.{once-is}
+use Rattle.holders.proofs.HitLaws.{type-10, type-12, type-9, type-16, type-7, type-11}
+use Rattle.holders.proofs.BodyLaws.{slot-at, last-is}
 use Rattle.reader.proofs.PlaceLaws.{upTo5, count-is, inside-0, inside-1, inside-2, inside-3}
 use Rattle.reader.proofs.CodeLaws.{Code, code-4, code-5, code-6, code-7, code-8, code-9, code-10, code-11, code-12, six-8, six-5}
 use Rattle.reader.proofs.SoundLaws.{compoundsIn}

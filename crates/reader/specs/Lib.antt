@@ -1,5 +1,1 @@
-pub mod Next
-pub mod Slots
-pub mod Pass
-pub mod Compounds
 pub mod Taken

@@ -6,16 +6,15 @@ use lib.ListN.{getD, take, drop}
 use lib.Dec.{leb, eqb}
 use Rattle.keys.specs.declared.refusal.Refusal.{Refusal}
 use Rattle.keys.specs.declared.refusal.Answer.the-variants.{Done, Refused}
-use Rattle.wire.specs.declared.fields.Fields.{Fields}
 use Rattle.wire.specs.declared.fields.Place.{Place}
 use Rattle.wire.specs.declared.fields.Reading.{Reading}
 use Rattle.wire.specs.Attributes.{be16, be32}
 use Rattle.wire.specs.Fields.{noFields}
 use Rattle.wire.specs.Reading.{noPlace}
-use Rattle.reader.specs.declared.pass.Slot.{Slot}
-use Rattle.reader.specs.declared.pass.Body.{Body}
-use Rattle.reader.specs.declared.compound.Compounds.{Compounds}
-use Rattle.reader.specs.Slots.{noSlot}
+use Rattle.holders.specs.declared.pass.Slot.{Slot}
+use Rattle.holders.specs.declared.pass.Body.{Body}
+use Rattle.holders.specs.declared.compound.Compounds.{Compounds}
+use Rattle.holders.specs.Slots.{noSlot}
 
 -- ---- question 9 of a body: the slots are those of `Slots`
 abbrev pub slotAt : Body → ℕ → Slot

@@ -1,17 +1,15 @@
 -- Laws of the characters of the input, with the line so far at the front of a lent slice.
 use mathlib.Core.Path.{_≡_, refl, sym, _∙_, ap}
-use mathlib.Core.Bool.{Bool, true, false, cond}
+use mathlib.Core.Bool.{Bool, cond}
 use mathlib.Core.List.{List, [], _∷_, _++_}
 use Prim.Native.Nat.{ℕ, zero, suc, _+_, _≤_, _<_}
 use native.Mathlib.Omega.{arith}
 use native.Mathlib.Numerals.{add-one}
-use lib.Dec.{eqb, ltb}
 use lib.ListN.{length, take, drop, set, getD}
 use lib.Seq.{length-take-le}
 use borrow.Author.Tests.{lt-ltb, le-ltb, eq-eqb, ne-eqb}
-use Rattle.replay_turn.specs.declared.start.Replay.{Replay}
-use Rattle.replay_turn.specs.Replay.{afterLine}
-use Rattle.replay.specs.declared.Reading.{Reading}
+use Rattle.replay_start.specs.declared.start.Replay.{Replay}
+use Rattle.replay_start.specs.Replay.{afterLine}
 use Rattle.replay.specs.Fed.{Pending, kept, fedBy, fedAll, pendingIn, Fed}
 
 -- ---- a character that is kept

@@ -4,14 +4,14 @@
 ghost use mathlib.Core.Path.{_≡_};
 ghost use Prim.Native.Nat.{_≤_, _<_};
 ghost use lib.ListN.{length, take};
-ghost use Rattle.replay_turn.specs.Replay.{afterLine};
+ghost use Rattle.replay_start.specs.Replay.{afterLine};
 ghost use Rattle.replay.specs.Fed.{kept, fedBy, fedAll, pendingIn, Fed};
 use libc::STDIN_FILENO;
 use libc::STDOUT_FILENO;
+use replay_start::start::Replay;
+use replay_start::start::begin;
 use replay_turn::line::put_end;
 use replay_turn::line::take_line;
-use replay_turn::start::Replay;
-use replay_turn::start::begin;
 
 // A run, and how many characters of the line that comes stand in the slice lent for it.
 struct Reading {

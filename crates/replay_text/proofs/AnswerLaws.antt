@@ -10,8 +10,8 @@ use Rattle.keys.specs.Put.{Put}
 use Rattle.keys.specs.Octets.{overlay}
 use Rattle.keys.proofs.StoreLaws.{sets-append, put-as, put-none, put-whole}
 use Rattle.calls.specs.declared.Kind.{Kind}
-use Rattle.text.specs.Decimal.{decimalOf}
-use Rattle.replay_text.specs.Answer.{textIf, restText, numberText}
+use Rattle.text.specs.Decimal.{decimalOf, numberText}
+use Rattle.replay_text.specs.Answer.{textIf, restText}
 
 pub put-number : (d : List ℕ) (at n after : ℕ) → set (sets d at (decimalOf n)) (at + length (decimalOf n)) after ≡ sets d at (numberText n after)
 unfolding numberText

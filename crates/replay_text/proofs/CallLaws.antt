@@ -10,19 +10,20 @@ use lib.Seq.{take-take}
 use borrow.Author.Tests.{le-leb, lt-leb}
 use Rattle.calls.specs.declared.Kind.{Kind}
 use Rattle.calls.specs.declared.Call.{Call}
-use Rattle.replay_text.specs.declared.fields.Field.{Field}
-use Rattle.replay_text.specs.declared.fields.Cuts.{Cuts}
-use Rattle.replay_text.specs.declared.hex.Place.{Place}
-use Rattle.replay_text.specs.declared.hex.Octets.{Octets}
+use Rattle.line_fields.specs.declared.fields.Field.{Field}
+use Rattle.line_fields.specs.declared.fields.Cuts.{Cuts}
+use Rattle.line_fields.specs.declared.hex.Place.{Place}
+use Rattle.line_fields.specs.declared.hex.Octets.{Octets}
 use Rattle.replay_text.specs.declared.call.ReadCall.{ReadCall}
 use Rattle.replay_text.specs.declared.name.Named.{Named}
-use Rattle.replay_text.specs.Fields.{fieldsOf, field, isLine}
-use Rattle.replay_text.specs.Hex.{octetsOf}
+use Rattle.line_fields.specs.Fields.{fieldsOf, field, isLine}
+use Rattle.line_fields.specs.Hex.{octetsOf}
 use Rattle.replay_text.specs.Call.{Told, when, tellOf, tellBy, kindNamed, callOf}
-use Rattle.replay_text.specs.Places.{Holds, Cut, textOf, octetsFor, namedFor, noPlace, noCall, keptOf}
+use Rattle.line_fields.specs.Places.{Holds, Cut, textOf, octetsFor}
+use Rattle.replay_text.specs.CallPlaces.{namedFor, noPlace, noCall, keptOf}
 use Rattle.replay_text.specs.Reads.{At, Reads}
-use Rattle.replay_text.proofs.SaidLaws.{text-length}
-use Rattle.replay_text.proofs.HexLaws.{octets-even}
+use Rattle.line_fields.proofs.SaidLaws.{text-length}
+use Rattle.line_fields.proofs.HexLaws.{octets-even}
 
 -- ---- places
 

@@ -9,18 +9,20 @@ use Rattle.keys.proofs.TestLaws.{both}
 use Rattle.calls.specs.declared.Kind.{Kind}
 use Rattle.calls.specs.declared.Call.{Call}
 use Rattle.calls.specs.declared.Kind.the-variants as kind
-use Rattle.replay_text.specs.declared.fields.Field.{Field}
-use Rattle.replay_text.specs.declared.fields.Num.{Num}
-use Rattle.replay_text.specs.declared.fields.Cuts.{Cuts}
-use Rattle.replay_text.specs.declared.hex.Place.{Place}
-use Rattle.replay_text.specs.declared.hex.Octets.{Octets}
-use Rattle.replay_text.specs.declared.listing.Pairs.{Pairs}
+use Rattle.line_fields.specs.declared.fields.Field.{Field}
+use Rattle.line_fields.specs.declared.fields.Num.{Num}
+use Rattle.line_fields.specs.declared.fields.Cuts.{Cuts}
+use Rattle.line_fields.specs.declared.hex.Place.{Place}
+use Rattle.line_fields.specs.declared.hex.Octets.{Octets}
+use Rattle.line_fields.specs.declared.listing.Pairs.{Pairs}
 use Rattle.replay_text.specs.declared.call.ReadCall.{ReadCall}
-use Rattle.replay_text.specs.Fields.{fieldsOf, field, isNumber, numberIn}
-use Rattle.replay_text.specs.Hex.{isOctets, octetsOf}
-use Rattle.replay_text.specs.Listing.{wordIn, isPairs, listingIn}
-use Rattle.replay_text.specs.Call.{isFlag, octetIn, callWith, plain, tellList, tellClock, tellBare, tellUp, tellDown, tellSealDown, tellSealUp, tellOpen}
-use Rattle.replay_text.specs.Places.{Holds, Cut, textOf, fieldsFrom, numOf, flagOf, octetsFor, pairsWhen, pairsOf, noPlace, keptOf}
+use Rattle.line_fields.specs.Fields.{fieldsOf, field, isNumber, numberIn, isFlag}
+use Rattle.line_fields.specs.Hex.{isOctets, octetsOf}
+use Rattle.line_fields.specs.Listing.{wordIn, isPairs, listingIn}
+use Rattle.calls.specs.Calls.{callWith, plain}
+use Rattle.replay_text.specs.Call.{octetIn, tellList, tellClock, tellBare, tellUp, tellDown, tellSealDown, tellSealUp, tellOpen}
+use Rattle.line_fields.specs.Places.{Holds, Cut, textOf, fieldsFrom, numOf, octetsFor, pairsWhen, pairsOf, flagOf}
+use Rattle.replay_text.specs.CallPlaces.{noPlace, keptOf}
 use Rattle.replay_text.specs.Reads.{Reads}
 use Rattle.replay_text.proofs.CallLaws.{nowhere, place-says, kept-reads}
 

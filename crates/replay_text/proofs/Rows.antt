@@ -3,12 +3,14 @@ use mathlib.Core.Path.{_≡_, refl}
 use mathlib.Core.List.{[], _∷_}
 use mathlib.Core.Option.{none, some}
 use Rattle.calls.specs.declared.Kind.the-variants as kind
-use Rattle.text.specs.Decimal.{isDigit, leading, valueFrom, valueOf, fitting, numberOf, numberAt, decimalWith, decimalOf}
-use Rattle.replay_text.specs.Fields.{fieldsOf, isLine, isNumber, numberIn, sameOctets}
-use Rattle.replay_text.specs.Hex.{isHex, hexValue, allHex, isOctets, octetsOf, hexDigit, hexOf}
-use Rattle.replay_text.specs.Listing.{isPairs, saidsIn, suitesIn, firstFour, listingIn}
-use Rattle.replay_text.specs.Call.{isFlag, callWith, plain, tellList, tellClock, tellBare, tellUp, tellDown, tellSealUp, tellOpen, kindNamed, callOf}
-use Rattle.replay_text.specs.Answer.{commaHex, answerText, numberText, countsText}
+use Rattle.text.specs.Decimal.{isDigit, leading, valueFrom, valueOf, fitting, numberOf, numberAt, decimalWith, decimalOf, numberText}
+use Rattle.text.specs.Same.{sameOctets}
+use Rattle.line_fields.specs.Fields.{fieldsOf, isLine, isNumber, numberIn, isFlag}
+use Rattle.line_fields.specs.Hex.{isHex, hexValue, allHex, isOctets, octetsOf, hexDigit, hexOf}
+use Rattle.line_fields.specs.Listing.{isPairs, saidsIn, suitesIn, firstFour, listingIn}
+use Rattle.calls.specs.Calls.{callWith, plain}
+use Rattle.replay_text.specs.Call.{tellList, tellClock, tellBare, tellUp, tellDown, tellSealUp, tellOpen, kindNamed, callOf}
+use Rattle.replay_text.specs.Answer.{commaHex, answerText, countsText}
 
 -- "list,7,1,0a0b,5,768,6,769": a listing of two pairs
 two-pairs : callOf

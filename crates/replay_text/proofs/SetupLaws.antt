@@ -8,16 +8,17 @@ use lib.Dec.{eqb}
 use lib.ListN.{length, drop}
 use borrow.Author.Tests.{le-leb, lt-leb}
 use Rattle.keys.specs.declared.settings.Settings.{Settings}
-use Rattle.replay_text.specs.declared.fields.Field.{Field}
-use Rattle.replay_text.specs.declared.fields.Num.{Num}
+use Rattle.line_fields.specs.declared.fields.Field.{Field}
+use Rattle.line_fields.specs.declared.fields.Num.{Num}
 use Rattle.replay_text.specs.declared.setup.ReadSettings.{ReadSettings}
 use Rattle.replay_text.specs.declared.setup.ReadModem.{ReadModem}
 use Rattle.replay_text.specs.declared.setup.Three.{Three}
-use Rattle.replay_text.specs.Fields.{fieldsOf, field, isLine, isNumber, numberIn}
-use Rattle.replay_text.specs.Listing.{wordIn}
+use Rattle.line_fields.specs.Fields.{fieldsOf, field, isLine, isNumber, numberIn}
+use Rattle.line_fields.specs.Listing.{wordIn}
 use Rattle.replay_text.specs.Setup.{threeNumbers, isSettings, settingsIn, settingsWhen, settingsOf, isModem, modemWhen, modemOf}
-use Rattle.replay_text.specs.Places.{textOf, fieldAt, fieldsFrom, afterField, numOf, threeAt}
-use Rattle.replay_text.proofs.FieldLaws.{from-start, nth-holds, nth-rest}
+use Rattle.line_fields.specs.Places.{textOf, fieldAt, fieldsFrom, afterField, numOf}
+use Rattle.replay_text.specs.CallPlaces.{threeAt}
+use Rattle.line_fields.proofs.FieldLaws.{from-start, nth-holds, nth-rest}
 
 module _ (l : List ℕ) where
   line-is : length l ≤ 16384 → isLine l ≡ true
@@ -125,3 +126,13 @@ module _ (l : List ℕ) where
       ∙ ap (λ (t : Three). settingsWhen (eqb (length fs) 9 && threeNumbers fs 0 && t .fits && c .fits) (settingsFrom (record { fits = threeNumbers fs 0; first = numberIn (field fs 0); second = numberIn (field fs 1); third = numberIn (field fs 2); next = 0 }) t c)) b″
       ∙ ap (λ (t : Three). settingsWhen (eqb (length fs) 9 && threeNumbers fs 0 && threeNumbers fs 3 && t .fits) (settingsFrom (record { fits = threeNumbers fs 0; first = numberIn (field fs 0); second = numberIn (field fs 1); third = numberIn (field fs 2); next = 0 }) (record { fits = threeNumbers fs 3; first = numberIn (field fs 3); second = numberIn (field fs 4); third = numberIn (field fs 5); next = 0 }) t)) c″
       ∙ ap (λ (t : Bool). settingsWhen (t && (eqb (length fs) 9 && threeNumbers fs 0 && threeNumbers fs 3 && threeNumbers fs 6)) (settingsIn fs)) (sym (line-is h))
+
+-- ---- three numbers of a line
+pub three-read : (l : List ℕ) (at : ℕ) (a b c : Field) (n m k : Num) → a ≡ fieldAt l at → n ≡ numOf (textOf l a) → b ≡ fieldAt l (a .end + 1) → m ≡ numOf (textOf l b)
+    → c ≡ fieldAt l (b .end + 1) → k ≡ numOf (textOf l c)
+    → _≡_ {A = Three} (record { fits = n .fits && m .fits && k .fits; first = n .value; second = m .value; third = k .value; next = c .end + 1 }) (threeAt l at)
+unfolding threeAt numOf
+three-read l at a b c n m k ea en eb em ec ek =
+    let b′ : b ≡ afterField l (fieldAt l at) = eb ∙ ap (afterField l) ea in
+    let c′ : c ≡ afterField l (afterField l (fieldAt l at)) = ec ∙ ap (afterField l) b′ in
+    rw (en, em, ek, ea, b′, c′)

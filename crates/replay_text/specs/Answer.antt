@@ -6,8 +6,8 @@ use lib.Dec.{eqb}
 use lib.ListN.{length}
 use Rattle.calls.specs.declared.Kind.{Kind}
 use Rattle.calls.specs.declared.Kind.the-variants as kind
-use Rattle.text.specs.Decimal.{decimalOf}
-use Rattle.replay_text.specs.Hex.{hexOf}
+use Rattle.text.specs.Decimal.{decimalOf, numberText}
+use Rattle.line_fields.specs.Hex.{hexOf}
 
 -- A text, or nothing
 abbrev pub textIf : Bool → List ℕ → List ℕ
@@ -54,10 +54,6 @@ answerText k number key tek vector sent = decimalOf number ++ restText k number 
 -- "frames,"
 abbrev pub framesName : List ℕ
 framesName = 102 ∷ 114 ∷ 97 ∷ 109 ∷ 101 ∷ 115 ∷ 44 ∷ []
-
--- A number and the octet after it
-unfoldable pub numberText : ℕ → ℕ → List ℕ
-numberText n after = decimalOf n ++ (after ∷ [])
 
 -- The frames taken and refused at the head-end and at the modem
 unfoldable pub countsText : ℕ → ℕ → ℕ → ℕ → List ℕ

@@ -8,10 +8,11 @@ use lib.ListN.{length, drop}
 use Rattle.calls.specs.declared.Kind.{Kind}
 use Rattle.calls.specs.declared.Call.{Call}
 use Rattle.calls.specs.declared.Kind.the-variants as kind
-use Rattle.association.specs.declared.listing.Listing.{Listing}
-use Rattle.replay_text.specs.Fields.{fieldsOf, field, isLine, isNumber, numberIn, sameOctets}
-use Rattle.replay_text.specs.Hex.{isOctets, octetsOf}
-use Rattle.replay_text.specs.Listing.{wordIn, isPairs, listingIn, noListing}
+use Rattle.calls.specs.Calls.{callWith, plain}
+use Rattle.text.specs.Same.{sameOctets}
+use Rattle.line_fields.specs.Fields.{fieldsOf, field, isLine, isNumber, numberIn, isFlag}
+use Rattle.line_fields.specs.Hex.{isOctets, octetsOf}
+use Rattle.line_fields.specs.Listing.{wordIn, isPairs, listingIn}
 
 -- A call, with the octets and the key that it brings
 pub record Told : Type 0 where
@@ -26,32 +27,9 @@ when false t = none
 
 -- ---- what fields say
 
--- ALLOWED and DIGEST: a number that is 0 or 1
-unfoldable pub isFlag : List ℕ → Bool
-isFlag f = isNumber f && leb (numberIn f) 1
-
 -- A DIRECTION or a NUMBER: one above 255 is taken as 255, which the engine refuses; a flag is what it is
 abbrev pub octetIn : List ℕ → ℕ
 octetIn f = min (numberIn f) 255
-
--- ---- calls by their kind, address, word, second, SAID and key number
-
--- with a listing
-abbrev pub callWith : Kind → ℕ → ℕ → ℕ → ℕ → ℕ → Listing → Call
-callWith k address word second said number l =
-    record {
-      kind = k;
-      address = address;
-      word = word;
-      second = second;
-      said = said;
-      number = record { 0 = number };
-      listing = l;
-    }
-
--- with none
-abbrev pub plain : Kind → ℕ → ℕ → ℕ → ℕ → ℕ → Call
-plain k address word second said number = callWith k address word second said number noListing
 
 -- ---- the calls
 

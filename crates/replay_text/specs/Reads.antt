@@ -6,11 +6,11 @@ use mathlib.Core.Option.{Option, none, some}
 use Prim.Native.Nat.{ℕ, _+_, _*_, _≤_}
 use lib.ListN.{length, take, drop}
 use Rattle.calls.specs.declared.Call.{Call}
-use Rattle.replay_text.specs.declared.hex.Place.{Place}
+use Rattle.line_fields.specs.declared.hex.Place.{Place}
 use Rattle.replay_text.specs.declared.call.ReadCall.{ReadCall}
-use Rattle.replay_text.specs.Hex.{octetsOf}
+use Rattle.line_fields.specs.Hex.{octetsOf}
 use Rattle.replay_text.specs.Call.{Told}
-use Rattle.replay_text.specs.Places.{noCall}
+use Rattle.replay_text.specs.CallPlaces.{noCall}
 
 abbrev pub isTold : Option Told → Bool
 isTold none = false

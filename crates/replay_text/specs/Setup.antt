@@ -8,8 +8,9 @@ use Rattle.keys.specs.declared.settings.Settings.{Settings}
 use Rattle.keys.specs.Settings.{noSettings}
 use Rattle.replay_text.specs.declared.setup.ReadSettings.{ReadSettings}
 use Rattle.replay_text.specs.declared.setup.ReadModem.{ReadModem}
-use Rattle.replay_text.specs.Fields.{fieldsOf, field, isLine, isNumber, numberIn, sameOctets}
-use Rattle.replay_text.specs.Listing.{wordIn}
+use Rattle.text.specs.Same.{sameOctets}
+use Rattle.line_fields.specs.Fields.{fieldsOf, field, isLine, isNumber, numberIn}
+use Rattle.line_fields.specs.Listing.{wordIn}
 
 -- "life,grace,aklife,akgrace,authorize,reauthorize,operational,rekey,reject"
 abbrev pub settingsNames : List ℕ

@@ -1,15 +1,14 @@
 // The line of an answer and the line of the counts, written at the front of a lent slice.
 ghost use mathlib.Core.Path.{_≡_};
-ghost use mathlib.Core.List.{_++_, _∷_, []};
+ghost use mathlib.Core.List.{_∷_, []};
 ghost use Prim.Native.Nat.{_+_, _*_, _≤_, _<_};
-ghost use lib.Dec.{eqb};
 ghost use lib.ListN.{length};
-ghost use Rattle.text.specs.Decimal.{decimalOf};
+ghost use Rattle.text.specs.Decimal.{numberText};
 ghost use Rattle.keys.specs.Put.{Put};
 ghost use Rattle.keys.specs.Octets.{overlay};
-ghost use Rattle.replay_text.specs.Answer.{Room, textIf, commaHex, keysText, sealText, openText, restText, answerText, numberText, countsText};
-use crate::hex::put_hex;
+ghost use Rattle.replay_text.specs.Answer.{Room, textIf, commaHex, keysText, sealText, openText, restText, answerText, countsText};
 use calls::Kind;
+use line_fields::hex::put_hex;
 use text::decimal::put_decimal;
 
 // One octet.

@@ -3,25 +3,25 @@ ghost use mathlib.Core.Path.{_≡_};
 ghost use mathlib.Core.Bool.{false};
 ghost use Prim.Native.Nat.{_≤_};
 ghost use lib.ListN.{length};
-ghost use Rattle.replay_text.specs.Fields.{fieldsOf};
-ghost use Rattle.replay_text.specs.Call.{plain, callOf, tellOf, tellList, tellClock, tellBare, tellUp, tellDown, tellSealDown, tellSealUp, tellOpen};
-ghost use Rattle.replay_text.specs.Places.{Inside, Cut, textOf, flagOf, noPlace, noCall, keptOf};
+ghost use Rattle.line_fields.specs.Fields.{fieldsOf};
+ghost use Rattle.replay_text.specs.Call.{callOf, tellOf, tellList, tellClock, tellBare, tellUp, tellDown, tellSealDown, tellSealUp, tellOpen};
+ghost use Rattle.line_fields.specs.Places.{Cut};
+ghost use Rattle.replay_text.specs.CallPlaces.{noPlace, noCall, keptOf};
 ghost use Rattle.replay_text.specs.Reads.{Reads};
-use crate::fields::Cuts;
-use crate::fields::Field;
-use crate::fields::Num;
-use crate::fields::cut_line;
-use crate::fields::number_of;
-use crate::fields::to_u8;
-use crate::fields::to_u16;
-use crate::hex::Place;
-use crate::hex::octets_of;
-use crate::listing::no_listing;
-use crate::listing::pairs_from;
 use crate::name::kind_named;
 use calls::Call;
 use calls::Kind;
+use calls::plain_call;
 use keys::numbers::TekNumber;
+use line_fields::fields::Cuts;
+use line_fields::fields::cut_line;
+use line_fields::fields::flag_of;
+use line_fields::fields::number_of;
+use line_fields::fields::to_u8;
+use line_fields::fields::to_u16;
+use line_fields::hex::Place;
+use line_fields::hex::octets_of;
+use line_fields::listing::pairs_from;
 
 // Whether a line is a call and which, and where the digits of its octets and of its key stand.
 pub struct ReadCall {
@@ -29,23 +29,6 @@ pub struct ReadCall {
     pub call: Call,
     pub octets: Place,
     pub key: Place,
-}
-
-// A call with no listing.
-fn plain_call(kind: Kind, address: u64, word: u8, second: u64, said: u16, number: u8) -> Call
-    ensures { λ r. ⌜ r ≡ plain kind address word second said number ⌝ }
-{
-    let listing = no_listing();
-    let tek = TekNumber(number);
-    Call {
-        kind: kind,
-        address: address,
-        word: word,
-        second: second,
-        said: said,
-        number: tek,
-        listing: listing,
-    }
 }
 
 fn no_place() -> Place
@@ -73,18 +56,6 @@ fn kept(on: bool, call: Call, octets: Place, key: Place) -> ReadCall
         call: none,
         octets: place,
         key: place,
-    }
-}
-
-// The number that a field says, where it is 0 or 1.
-fn flag_of(line: &[u8], f: Field) -> Num
-    requires { ⌜ Inside (now line) f ⌝ }
-    ensures { λ r. ⌜ r ≡ flagOf (textOf (now (line .entry)) f) ⌝ }
-{
-    let n = number_of(line, f);
-    Num {
-        fits: n.fits & (n.value <= 1),
-        value: n.value,
     }
 }
 

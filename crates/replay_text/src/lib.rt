@@ -4,8 +4,5 @@
 // Octets that are written and read again are the same (proofs/HexBack.antt, `read-back`); proofs/Rows.antt has computed lines.
 pub mod answer;
 pub mod call;
-mod fields;
-pub mod hex;
-mod listing;
 mod name;
 pub mod setup;

@@ -2,9 +2,9 @@
 ghost use mathlib.Core.Path.{_≡_};
 ghost use mathlib.Core.Option.{some};
 ghost use Rattle.replay_text.specs.Call.{kindNamed};
-ghost use Rattle.replay_text.specs.Places.{namedFor};
-use crate::fields::same;
+ghost use Rattle.replay_text.specs.CallPlaces.{namedFor};
 use calls::Kind;
+use line_fields::fields::same;
 
 // Whether a name is one of the ten, and which.
 pub struct Named {

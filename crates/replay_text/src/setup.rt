@@ -3,19 +3,18 @@ ghost use mathlib.Core.Path.{_≡_};
 ghost use mathlib.Core.Bool.{false};
 ghost use Prim.Native.Nat.{_≤_};
 ghost use lib.ListN.{length};
-ghost use Rattle.keys.specs.Settings.{noSettings};
 ghost use Rattle.replay_text.specs.Setup.{settingsNamesOf, modemNamesOf, settingsOf, settingsWhen, modemOf, modemWhen};
-ghost use Rattle.replay_text.specs.Places.{threeAt};
-use crate::fields::count_fields;
-use crate::fields::field_at;
-use crate::fields::number_of;
-use crate::fields::same;
-use crate::fields::to_u16;
+ghost use Rattle.replay_text.specs.CallPlaces.{threeAt};
 use keys::settings::AkTimes;
 use keys::settings::Settings;
 use keys::settings::TekTimes;
 use keys::settings::Waits;
 use keys::settings::no_settings;
+use line_fields::fields::count_fields;
+use line_fields::fields::field_at;
+use line_fields::fields::number_of;
+use line_fields::fields::same;
+use line_fields::fields::to_u16;
 
 // The settings that a line says, zeros where it is none.
 pub struct ReadSettings {

@@ -1,21 +1,19 @@
--- What a line of set-up and the end of a run give, by the stage where the run stands.
+-- What is written for a line of set-up and at the end of a run, by the stage where the run stands.
 use mathlib.Core.Path.{_≡_, refl, sym, _∙_, ap, subst}
-use mathlib.Core.Bool.{Bool, true, false, cond, _&&_}
+use mathlib.Core.Bool.{Bool, true, false, cond}
 use mathlib.Core.List.{List, [], _∷_}
-use Prim.Native.Nat.{ℕ, _≤_, _<_}
+use Prim.Native.Nat.{ℕ, _≤_}
 use native.Mathlib.Omega.{arith}
 use lib.ListN.{length, set}
-use Rattle.keys.specs.declared.settings.Settings.{Settings}
 use Rattle.keys.specs.Octets.{overlay}
-use Rattle.replay_text.specs.declared.setup.ReadSettings.{ReadSettings}
 use Rattle.replay_text.specs.declared.setup.ReadModem.{ReadModem}
-use Rattle.apply.specs.declared.ends.Ends.{Ends}
-use Rattle.replay_turn.specs.declared.start.Stage.{Stage}
-use Rattle.replay_turn.specs.declared.start.Stage.the-variants.{ModemNames, Running, Stopped}
-use Rattle.replay_turn.specs.declared.start.Replay.{Replay}
+use Rattle.apply_modem.specs.declared.ends.Ends.{Ends}
+use Rattle.replay_start.specs.declared.start.Stage.{Stage}
+use Rattle.replay_start.specs.declared.start.Stage.the-variants.{Stopped}
+use Rattle.replay_start.specs.declared.start.Replay.{Replay}
 use Rattle.replay_turn.specs.declared.line.Taken.{Taken}
-use Rattle.replay_turn.specs.Turn.{noCallText}
-use Rattle.replay_turn.specs.Replay.{freshEnds, atStage, settingsRead, bothFit, modemRead, startText, limitsText, modemText, endTextAt}
+use Rattle.replay_start.specs.Turn.{noCallText}
+use Rattle.replay_start.specs.Replay.{bothFit, startText, limitsText, modemText, endTextAt}
 use Rattle.replay_turn.specs.Takes.{Takes}
 
 -- Two octets put at the front
@@ -23,26 +21,6 @@ pub two-put : (a b : ℕ) (out : List ℕ) → 1024 ≤ length out → set (set 
 two-put a b [] h = absurd (omega arith)
 two-put a b (x ∷ []) h = absurd (omega arith)
 two-put a b (x ∷ y ∷ l) h = refl
-
--- ---- set-up
-pub settings-refused : (r : ReadSettings) (s x : Replay) → r .«is_form» ≡ false → x ≡ atStage s Stopped → x ≡ settingsRead r s
-settings-refused r s x h e = e ∙ ap (λ b. cond b (record { stage = ModemNames; settings = r .settings; ends = s .ends }) (atStage s Stopped)) (sym h)
-
-pub settings-taken : (r : ReadSettings) (s : Replay) → r .«is_form» ≡ true → record { stage = ModemNames; settings = r .settings; ends = s .ends } ≡ settingsRead r s
-settings-taken r s h = ap (λ b. cond b (record { stage = ModemNames; settings = r .settings; ends = s .ends }) (atStage s Stopped)) (sym h)
-
-abbrev modemBy : Bool → ReadModem → Replay → Replay
-modemBy b r s = cond b (record { stage = Running; settings = s .settings; ends = freshEnds (s .settings) (r .address) (r .said) }) (atStage s Stopped)
-
-pub modem-taken : (r : ReadModem) (s : Replay) (b : Bool) (e : Ends) → b ≡ bothFit (s .settings) (r .address) (r .said) → r .«is_form» && b ≡ true
-    → e ≡ freshEnds (s .settings) (r .address) (r .said) → record { stage = Running; settings = s .settings; ends = e } ≡ modemRead r s
-modem-taken r s b e f h q =
-    ap (λ (y : Ends). record { stage = Running; settings = s .settings; ends = y }) q
-    ∙ ap (λ t. modemBy t r s) (sym h) ∙ ap (λ t. modemBy (r .«is_form» && t) r s) f
-
-pub modem-refused : (r : ReadModem) (s x : Replay) (b : Bool) → b ≡ bothFit (s .settings) (r .address) (r .said) → r .«is_form» && b ≡ false
-    → x ≡ atStage s Stopped → x ≡ modemRead r s
-modem-refused r s x b f h e = e ∙ ap (λ t. modemBy t r s) (sym h) ∙ ap (λ t. modemBy (r .«is_form» && t) r s) f
 
 -- ---- what is written for it
 abbrev Says : List ℕ → List ℕ → ℕ → List ℕ → Type 0

@@ -1,11 +1,10 @@
 -- Laws of what was written at the front of a lent slice, of an answer, and of a line by the call that it says.
 use mathlib.Core.Path.{_≡_, refl, sym, _∙_, ap, subst}
-use mathlib.Core.Bool.{Bool, true, false}
+use mathlib.Core.Bool.{true, false}
 use mathlib.Core.List.{List, [], _∷_, _++_}
 use mathlib.Core.Option.{Option, none, some}
 use Prim.Native.Nat.{ℕ, _+_, _*_, _≤_, _<_}
 use native.Mathlib.Omega.{arith}
-use lib.Dec.{leb}
 use lib.ListN.{length, take, drop, replicate, length-append, length-drop}
 use borrow.Author.Tests.{lt-leb}
 use Rattle.keys.specs.Octets.{overlay}
@@ -14,20 +13,20 @@ use Rattle.calls.specs.declared.Kind.{Kind}
 use Rattle.calls.specs.declared.Call.{Call}
 use Rattle.plant.specs.World.{Step}
 use Rattle.replay_text.specs.declared.call.ReadCall.{ReadCall}
-use Rattle.replay_text.specs.declared.hex.Place.{Place}
+use Rattle.line_fields.specs.declared.hex.Place.{Place}
 use Rattle.replay_text.specs.Answer.{answerText, Room}
-use Rattle.replay_text.proofs.HexLaws.{octets-length}
-use Rattle.replay_text.specs.Fields.{isLine}
-use Rattle.replay_text.specs.Hex.{octetsOf}
+use Rattle.line_fields.proofs.HexLaws.{octets-length}
+use Rattle.line_fields.specs.Fields.{isLine}
+use Rattle.line_fields.specs.Hex.{octetsOf}
 use Rattle.replay_text.specs.Call.{Told, callOf}
 use Rattle.replay_text.specs.Reads.{Reads}
-use Rattle.apply.specs.declared.ends.Ends.{Ends}
-use Rattle.apply.specs.declared.ends.Applied.{Applied}
-use Rattle.apply.specs.Steps.{worldOf, stepFor}
-use Rattle.apply.specs.Gave.{gaveOf}
-use Rattle.apply.specs.Applied.{appliedOf}
+use Rattle.apply_modem.specs.declared.ends.Ends.{Ends}
+use Rattle.apply_modem.specs.declared.ends.Applied.{Applied}
+use Rattle.apply_modem.specs.Steps.{worldOf, stepFor}
+use Rattle.apply_modem.specs.Gave.{gaveOf}
+use Rattle.apply_modem.specs.Applied.{appliedOf}
 use Rattle.replay_turn.specs.declared.turn.Turned.{Turned}
-use Rattle.replay_turn.specs.Turn.{noCallText, answeredBy, endsAfter, turnTextFor, turnEndsFor, turnText, turnEnds}
+use Rattle.replay_start.specs.Turn.{noCallText, answeredBy, endsAfter, turnTextFor, turnEndsFor}
 
 -- The octets in front are those that were written
 pub take-front : (w rest : List ℕ) → take (length w) (w ++ rest) ≡ w
@@ -86,6 +85,7 @@ module _ (e : Ends) (c : Call) (octets key : List ℕ) (a : Applied) (tek vector
   vector-shown = ap (λ n. take n vector) wide ∙ ap (take (length (gaveOf (worldOf e) s .out .tek))) vector-is
 
   pub answer-is : (k : Kind) → answerText k (a .number) (a .key .0) (take (a .width) tek) (take (a .width) vector) (take (a .count) sent) ≡ answeredBy e s k
+  unfolding answeredBy
   answer-is k =
       ap (λ (y : Applied). answerText k (y .number) (y .key .0) (take (a .width) tek) (take (a .width) vector) (take (a .count) sent)) is
       ∙ ap (λ (l : List ℕ). answerText k (appliedOf (worldOf e) s .number) (gaveOf (worldOf e) s .key .0) l (take (a .width) vector) (take (a .count) sent)) tek-shown
@@ -94,6 +94,7 @@ module _ (e : Ends) (c : Call) (octets key : List ℕ) (a : Applied) (tek vector
       (take (length (gaveOf (worldOf e) s .out .tek)) (overlay (replicate 16 0) (gaveOf (worldOf e) s .out .vector))) l) sent-shown
 
   pub ends-are : a .ends ≡ endsAfter e s
+  unfolding endsAfter
   ends-are = ap (λ (y : Applied). y .ends) is
 
 -- ---- a line by what it says

@@ -4,10 +4,10 @@ use mathlib.Core.List.{List}
 use Prim.Native.Nat.{ℕ, _≤_}
 use lib.ListN.{length}
 use Rattle.keys.specs.Octets.{overlay}
-use Rattle.replay_turn.specs.declared.start.Stage.{Stage}
-use Rattle.replay_turn.specs.declared.start.Replay.{Replay}
+use Rattle.replay_start.specs.declared.start.Stage.{Stage}
+use Rattle.replay_start.specs.declared.start.Replay.{Replay}
 use Rattle.replay_turn.specs.declared.line.Taken.{Taken}
-use Rattle.replay_turn.specs.Replay.{afterLineAt, lineTextAt}
+use Rattle.replay_start.specs.Replay.{afterLineAt, lineTextAt}
 
 -- At the stage where the run stands; `out` and `after` are the slice lent for the answer, before and after
 pub record Takes (stage : Stage) (s : Replay) (line out : List ℕ) (r : Taken) (after : List ℕ) : Type 0 where

@@ -2,5 +2,4 @@
 // promise: the state after a line and the text that it answers are those of specs/Replay.antt, for any line. The reading and the printing
 // are `replay_text`'s, the calls `apply`'s.
 pub mod line;
-pub mod start;
 pub mod turn;

@@ -3,16 +3,16 @@ ghost use mathlib.Core.Path.{_≡_};
 ghost use Prim.Native.Nat.{_+_, _*_, _≤_};
 ghost use lib.ListN.{length, take, drop};
 ghost use Rattle.keys.specs.Octets.{overlay};
-ghost use Rattle.apply.specs.Steps.{stepFor};
-ghost use Rattle.replay_text.specs.Hex.{octetsOf};
-ghost use Rattle.replay_turn.specs.Turn.{noCallText, answeredBy, endsAfter, turnText, turnEnds};
+ghost use Rattle.apply_modem.specs.Steps.{stepFor};
+ghost use Rattle.line_fields.specs.Hex.{octetsOf};
+ghost use Rattle.replay_start.specs.Turn.{noCallText, answeredBy, endsAfter, turnText, turnEnds};
 use apply::apply::apply;
-use apply::ends::Ends;
+use apply_modem::ends::Ends;
 use calls::Call;
+use line_fields::hex::Place;
+use line_fields::hex::put_octets_at;
 use replay_text::answer::put_answer;
 use replay_text::call::read_call;
-use replay_text::hex::Place;
-use replay_text::hex::put_octets_at;
 
 // The ends after a line, and how many characters were answered.
 pub struct Turned {

@@ -5,7 +5,8 @@ use Prim.Native.Nat.{ℕ}
 use Rattle.keys.specs.Settings.{lifeFits}
 use Rattle.text.specs.Decimal.{isDigit, leading, valueFrom, valueOf, fitting, numberOf, numberAt, decimalWith, decimalOf}
 use Rattle.schedule_table.specs.declared.input.Input.the-variants.{Table}
-use Rattle.schedule_table.specs.Schedule.{names, sameOctets, endsAt, fieldAt, inForm, askedFits, inputOf, everyHalf, rowOctets, rowsOf, header, tableOf, outputOf}
+use Rattle.text.specs.Same.{sameOctets}
+use Rattle.schedule_table.specs.Schedule.{names, endsAt, fieldAt, inForm, askedFits, inputOf, everyHalf, rowOctets, rowsOf, header, tableOf, outputOf}
 
 -- "1800,0,1800" with no line end
 abbrev values : List ℕ

@@ -16,7 +16,8 @@ use Rattle.text.specs.declared.decimal.Number.{Number}
 use Rattle.text.specs.Decimal.{numberAt, numberOf, numberWhen, fitting, leading, valueOf, limit}
 use Rattle.schedule_table.specs.declared.input.Asked.{Asked}
 use Rattle.schedule_table.specs.declared.input.Input.the-variants.{Table, Refused}
-use Rattle.schedule_table.specs.Schedule.{names, sameOctets, endsAt, fieldAt, fromPlace, untilPlace, inForm, askedFits, valuesOf, inputOf}
+use Rattle.text.specs.Same.{sameOctets}
+use Rattle.schedule_table.specs.Schedule.{names, endsAt, fieldAt, fromPlace, untilPlace, inForm, askedFits, valuesOf, inputOf}
 
 -- ---- the line of names, octet by octet
 same-short : (xs ys : List ℕ) → length xs < length ys → sameOctets xs ys ≡ false

@@ -7,7 +7,6 @@ use lib.Dec.{leb, eqb}
 use lib.ListN.{length}
 use Rattle.keys.specs.Numbers.{tekNumber}
 use Rattle.keys.specs.declared.traffic.TrafficKey.{TrafficKey}
-use Rattle.text.specs.Decimal.{decimalOf}
 use Rattle.association.specs.Listing.{freshOf}
 use Rattle.association.specs.Made.{Made, Line, keysMadeFrom}
 use Rattle.association.specs.Roll.{rolledOf}
@@ -17,10 +16,6 @@ use Rattle.schedule_table.specs.declared.input.Input.the-variants.{Table
 use Rattle.schedule_table.specs.declared.print.Cursor.{Cursor}
 use Rattle.schedule_table.specs.declared.print.Printed.{Printed}
 use Rattle.schedule_table.specs.Schedule.{zeros, halfLife, everyHalf, rowOctets, rowsOf, header, inputOf}
-
--- A number and the octet after it
-unfoldable pub fieldOctets : ℕ → ℕ → List ℕ
-fieldOctets n after = decimalOf n ++ (after ∷ [])
 
 -- ---- the cursor
 

@@ -1,11 +1,12 @@
 -- What the schedule program reads and prints (document 01, "Edges").
-use mathlib.Core.Bool.{Bool, true, false, cond, _&&_, _||_}
+use mathlib.Core.Bool.{Bool, cond, _&&_, _||_}
 use mathlib.Core.List.{List, [], _∷_, _++_}
 use Prim.Native.Nat.{ℕ, zero, suc, _+_, _-_, _/_, _%_}
 use lib.Dec.{leb, eqb}
 use lib.ListN.{length, take, getD, replicate}
 use Rattle.keys.specs.Settings.{lifeFits}
 use Rattle.text.specs.Decimal.{numberAt, decimalOf}
+use Rattle.text.specs.Same.{sameOctets}
 use Rattle.association.specs.Made.{Made, Accepted, listing, clock, keysMade}
 use Rattle.schedule_table.specs.declared.input.Asked.{Asked}
 use Rattle.schedule_table.specs.declared.input.Input.{Input}
@@ -16,12 +17,6 @@ use Rattle.schedule_table.specs.declared.input.Input.the-variants.{Table
 -- "life,from,until" and the end of the line
 abbrev pub names : List ℕ
 names = 108 ∷ 105 ∷ 102 ∷ 101 ∷ 44 ∷ 102 ∷ 114 ∷ 111 ∷ 109 ∷ 44 ∷ 117 ∷ 110 ∷ 116 ∷ 105 ∷ 108 ∷ 10 ∷ []
-
-unfoldable pub sameOctets : List ℕ → List ℕ → Bool
-sameOctets [] [] = true
-sameOctets [] (y ∷ ys) = false
-sameOctets (x ∷ xs) [] = false
-sameOctets (x ∷ xs) (y ∷ ys) = eqb x y && sameOctets xs ys
 
 -- Nothing follows, or one end of a line and then nothing
 unfoldable pub endsAt : List ℕ → ℕ → Bool

@@ -4,7 +4,8 @@ ghost use mathlib.Core.Bool.{true};
 ghost use Prim.Native.Nat.{_<_};
 ghost use lib.Dec.{eqb};
 ghost use lib.ListN.{length, take, getD};
-ghost use Rattle.schedule_table.specs.Schedule.{names, sameOctets, endsAt, askedFits, inputOf};
+ghost use Rattle.text.specs.Same.{sameOctets};
+ghost use Rattle.schedule_table.specs.Schedule.{names, endsAt, askedFits, inputOf};
 use keys::settings::life_fits;
 use text::decimal::number_at;
 

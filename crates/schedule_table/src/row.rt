@@ -3,7 +3,7 @@ ghost use Prim.Native.Nat.{_+_, _≤_};
 ghost use lib.ListN.{length};
 ghost use Rattle.keys.specs.Put.{Put};
 ghost use Rattle.schedule_table.specs.Schedule.{header, rowOctets};
-ghost use Rattle.schedule_table.specs.Print.{fieldOctets};
+ghost use Rattle.text.specs.Decimal.{numberText};
 use text::decimal::put_decimal;
 
 // Copies `line` to the front.
@@ -29,7 +29,7 @@ pub fn put_header(out: &mut [u8]) -> usize
 // A number and the octet after it.
 fn put_field(out: &mut [u8], at: usize, n: u64, after: u8) -> usize
     requires { ⌜ at + 21 ≤ length (now out) ⌝ }
-    ensures { λ r. ⌜ Put (now (out .entry)) at (fieldOctets n after) r (now (out .exit)) ⌝ }
+    ensures { λ r. ⌜ Put (now (out .entry)) at (numberText n after) r (now (out .exit)) ⌝ }
     ensures { λ r. ⌜ r ≤ at + 21 ⌝ }
 {
     let end = put_decimal(out, at, n);

@@ -83,3 +83,7 @@ appendTo p b = appendWhen (p .fits) (p .value * 10 + (b - 48))
 -- the answer for n digits read, which end at next
 unfoldable pub numberFrom : Partial → ℕ → ℕ → Number
 numberFrom p n next = numberWhen (p .fits && leb 1 n && leb n 20) (p .value) next
+
+-- a number and the octet after it
+unfoldable pub numberText : ℕ → ℕ → List ℕ
+numberText n after = decimalOf n ++ (after ∷ [])

@@ -1,2 +1,3 @@
 -- What the crate's functions answer.
 pub mod Decimal
+pub mod Same

@@ -1,9 +1,9 @@
 // Prints whether the messages of document 000's appendix I are read and written as it says: I.4, I.5 and I.6.
+use attributes::octets::part;
 use check::same;
 use keys::refusal::Answer;
 use keys::refusal::answer_number;
 use libc::STDOUT_FILENO;
-use reader::octets::part;
 use reader::read::read;
 use wire::fields::Descriptor;
 use wire::fields::Fields;
@@ -145,6 +145,19 @@ fn authorization_reply(m: &[u8]) {
     );
 }
 
+// What I.5 and I.6 share: Identifier, SAID, and no life and no descriptors.
+fn compare_front(name: &[u8], f: Fields, answer: Answer, code: u8) {
+    compare_head(name, f, answer, code, 115);
+    say(name, b"life (not carried)", f.life == 0);
+    say(name, b"SAID", f.said == 8800);
+    compare_no_descriptors(name, f);
+}
+
+fn compare_places(name: &[u8], key: Place, digest: Place, at: usize) {
+    say(name, b"AUTH-Key's place (not carried)", is_at(key, 0, 0));
+    say(name, b"digest's place", is_at(digest, at, 20));
+}
+
 // I.5. `m` has its octets. In this copy letters stand for digits: Cyrillic ones in ca, a6 and e6, and l for the 1 of the digest's a1.
 // Two rows are run together as "b2 00 79 01 90 ..": taken as b2 79 90 .. 03 01, then 00 01. Of the digest's row the type, the
 // length and the last three octets are lost: taken from I.5.1. The public key's modulus begins with e0 once in this copy and twice in
@@ -157,17 +170,35 @@ fn key_request(m: &[u8], standard: &[u8]) {
     let f = r.fields;
     let key = r.key;
     let digest = r.digest;
-    compare_head(name, f, answer, 7, 115);
-    say(name, b"life (not carried)", f.life == 0);
-    say(name, b"SAID", f.said == 8800);
-    compare_no_descriptors(name, f);
+    compare_front(name, f, answer, 7);
     compare_no_params(name, f);
-    say(name, b"AUTH-Key's place (not carried)", is_at(key, 0, 0));
-    say(name, b"digest's place", is_at(digest, 192, 20));
+    compare_places(name, key, digest, 192);
     say(
         name,
         b"message written again (without CM-Identification, digest zeroed)",
         is_written_again(f, b"", standard, 20),
+    );
+}
+
+fn compare_older(p: Params) {
+    compare_params(
+        b"I.6 Key Reply: older ",
+        p,
+        2,
+        43200,
+        b"\xb6\x4d\x54\x8c\x3f\x6b\x25\x69",
+        b"\x81\x0e\x52\x8e\x1c\x5f\xda\x1a",
+    );
+}
+
+fn compare_newer(p: Params) {
+    compare_params(
+        b"I.6 Key Reply: newer ",
+        p,
+        3,
+        86400,
+        b"\x5e\xbd\x03\xaa\x5e\xd5\xe2\x94",
+        b"\x25\x35\x67\xc3\x09\x21\x8c\x2c",
     );
 }
 
@@ -181,28 +212,10 @@ fn key_reply(m: &[u8]) {
     let digest = r.digest;
     let older = f.older;
     let newer = f.newer;
-    compare_head(name, f, answer, 8, 115);
-    say(name, b"life (not carried)", f.life == 0);
-    say(name, b"SAID", f.said == 8800);
-    compare_no_descriptors(name, f);
-    compare_params(
-        b"I.6 Key Reply: older ",
-        older,
-        2,
-        43200,
-        b"\xb6\x4d\x54\x8c\x3f\x6b\x25\x69",
-        b"\x81\x0e\x52\x8e\x1c\x5f\xda\x1a",
-    );
-    compare_params(
-        b"I.6 Key Reply: newer ",
-        newer,
-        3,
-        86400,
-        b"\x5e\xbd\x03\xaa\x5e\xd5\xe2\x94",
-        b"\x25\x35\x67\xc3\x09\x21\x8c\x2c",
-    );
-    say(name, b"AUTH-Key's place (not carried)", is_at(key, 0, 0));
-    say(name, b"digest's place", is_at(digest, 88, 20));
+    compare_front(name, f, answer, 8);
+    compare_older(older);
+    compare_newer(newer);
+    compare_places(name, key, digest, 88);
     say(
         name,
         b"message written again (digest zeroed)",

@@ -11,6 +11,7 @@ pub mod FieldsFit
 pub mod WrittenBody
 pub mod WrittenFields
 pub mod WrittenRead
+pub mod WrittenStandard
 pub mod OrderLaws
 pub mod PartsRead
 pub mod DescriptorsRead
@@ -18,3 +19,4 @@ pub mod TakenLaws
 pub mod ReadFits
 pub mod ItemsRead
 pub mod ReadWritten
+pub mod ReadCall

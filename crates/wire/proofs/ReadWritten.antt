@@ -137,15 +137,16 @@ module _ (e : Receiver) (s : List ℕ) (o : Octets s) (d : messageAnswer e s ≡
   body-again : octets l ≡ bodyOf s
   body-again = octets-items (bodyOf s) body-octets whole
 
-  -- the AUTH-Key is read where its place says
-  key-is : needs (codeOf s) 7 ≡ true → key ≡ valueAt 7 0 l
+  -- a value that is needed once is read where its place says
+  pub value-is : (k : ℕ) → eqb k 13 ≡ false → eqb k 23 ≡ false → needs (codeOf s) k ≡ true
+      → take (placeOf (codeOf s) k l .len) (drop (placeOf (codeOf s) k l .start) s) ≡ valueAt k 0 l
   unfolding placeOf
-  key-is h =
+  value-is k a b h =
       let p = getD s 0 0 ∷ getD s 1 0 ∷ getD s 2 0 ∷ getD s 3 0 ∷ [] in
       let all : s ≡ p ++ (octets l ++ []) = header s o (parts .0) ∙ ap (λ (b : List ℕ). p ++ b) (sym body-again ∙ sym (append-nil (octets l))) in
-      let found : take (length (valueAt 7 0 l)) (drop (startFrom 4 7 l) (p ++ (octets l ++ []))) ≡ valueAt 7 0 l =
-      start-value 7 l 4 p [] refl whole (omega (arith, once (codeOf s) l (taken e s d) 7 refl refl h)) in
-      rw h (ap (λ (m : List ℕ). take (length (valueAt 7 0 l)) (drop (startFrom 4 7 l) m)) all ∙ found)
+      let found : take (length (valueAt k 0 l)) (drop (startFrom 4 k l) (p ++ (octets l ++ []))) ≡ valueAt k 0 l =
+      start-value k l 4 p [] refl whole (omega (arith, once (codeOf s) l (taken e s d) k a b h)) in
+      rw h (ap (λ (m : List ℕ). take (length (valueAt k 0 l)) (drop (startFrom 4 k l) m)) all ∙ found)
 
   in-order : InOrder (codeOf s) l key digest
   in-order =
@@ -154,7 +155,7 @@ module _ (e : Receiver) (s : List ℕ) (o : Octets s) (d : messageAnswer e s ≡
         order = parts .1;
         params = parts .2;
         descriptors = parts .3;
-        auth = key-is;
+        auth = value-is 7 refl refl;
         last = λ h. refl;
       }
 

@@ -1,32 +1,24 @@
 -- The Key Reply of appendix I.6, read; and two damaged copies of it, refused.
 use mathlib.Core.Path.{_≡_, refl}
-use mathlib.Core.List.{[]}
 use mathlib.Core.Bool.{true}
-use lib.ListN.{take, drop, set}
+use lib.ListN.{take, set}
 use Rattle.keys.specs.declared.refusal.Answer.the-variants.{Done, Refused}
 use Rattle.keys.specs.declared.refusal.Refusal.the-variants.{CutMessage, BadAttribute}
 use Rattle.keys.specs.Refusal.{answerNumber}
-use Rattle.keys.specs.Octets.{padded, allZero, zeroPast}
-use Rattle.wire.specs.declared.fields.Receiver.the-variants.{HeadEnd, Modem}
-use Rattle.wire.specs.Attributes.{itemsWith, items, values, countOf, valueAt, lastFrom, allOf, startFrom, be16, be32, two, four, attrOctets, octets}
+use Rattle.keys.specs.Octets.{padded}
+use Rattle.wire.specs.declared.fields.Receiver.the-variants.{Modem}
+use Rattle.wire.specs.Attributes.{itemsWith, items, values, countOf, valueAt, lastFrom, allOf, startFrom, be16, be32}
 use Rattle.wire.specs.Ranges.{neededOf, among, needs, longestLife, fits, insideGood, insideSound, compound, good, sound}
 use Rattle.wire.specs.Messages.{lengthOf, bodyOf, isWhole, receives, asTold, insidesTold, compoundsTold, digestLast, saidsDiffer, inOrder, pairInOrder, complete, messageQuestions, messageAnswer}
 use Rattle.wire.specs.Fields.{keyOctets, paramsOf, descriptorOf, carried, carriedCount, fieldsOf, noFields}
 use Rattle.wire.specs.Reading.{noPlace, placeOf, takenOf, readOf}
-use Rattle.wire.specs.Limits.{keyOctetsFit, paramsFit, pairFit, placeFit, descriptorZero, descriptorsZero, headFits, fieldsFit}
 use Rattle.wire.specs.Vectors.{replyI6, fieldsI6}
 use Rattle.wire.specs.Standard.{standard, typesOf, orderOf, sameTypes, ordered, insidesOrdered}
-use Rattle.wire.specs.Writing.{messageOf, message, itemsOf, itemsOfTypes, itemsOfType, paramsItems}
 
 -- It is taken, with these fields; the digest is its last 20 octets
 pub read-I6 : readOf Modem replyI6 ≡ record { answer = Done; fields = fieldsI6; key = noPlace; digest = record { start = 88; len = 20 } }
 unfolding readOf takenOf placeOf fieldsOf carriedCount carried descriptorOf paramsOf keyOctets padded messageAnswer messageQuestions complete pairInOrder inOrder saidsDiffer digestLast compoundsTold insidesTold asTold receives isWhole bodyOf lengthOf sound good compound insideSound insideGood fits longestLife needs among neededOf be32 be16 startFrom allOf lastFrom valueAt countOf values items itemsWith
 read-I6 = refl
-
--- The head-end does not receive a Key Reply
-pub read-I6-headend : answerNumber (readOf HeadEnd replyI6 .answer) ≡ 7
-unfolding readOf messageAnswer messageQuestions receives isWhole lengthOf
-read-I6-headend = refl
 
 -- Length 103: the digest no longer ends inside
 pub read-103 : readOf Modem (set replyI6 3 103) ≡ record { answer = Refused BadAttribute; fields = noFields; key = noPlace; digest = noPlace }
@@ -38,26 +30,14 @@ pub read-107 : readOf Modem (take 107 replyI6) ≡ record { answer = Refused Cut
 unfolding readOf messageAnswer messageQuestions isWhole lengthOf
 read-107 = refl
 
--- The same three answers as numbers
-pub number-I6 : answerNumber (readOf Modem replyI6 .answer) ≡ 0
-number-I6 = rw read-I6
-
+-- The two refusals as numbers
 pub number-103 : answerNumber (readOf Modem (set replyI6 3 103) .answer) ≡ 8
 number-103 = rw read-103
 
 pub number-107 : answerNumber (readOf Modem (take 107 replyI6) .answer) ≡ 6
 number-107 = rw read-107
 
--- It is in the standard order, and its fields with its digest are written as it
+-- It is in the standard order
 pub standard-I6 : standard replyI6 ≡ true
 unfolding standard ordered insidesOrdered typesOf orderOf sameTypes bodyOf lengthOf neededOf countOf values items itemsWith
 standard-I6 = refl
-
-pub written-I6 : messageOf fieldsI6 [] (drop 88 replyI6) ≡ replyI6
-unfolding messageOf message itemsOf itemsOfTypes itemsOfType paramsItems neededOf octets attrOctets two four
-written-I6 = refl
-
--- Its fields are within the limits of fields to be written
-pub fits-I6 : fieldsFit fieldsI6 ≡ true
-unfolding fieldsFit headFits descriptorsZero descriptorZero placeFit pairFit paramsFit keyOctetsFit zeroPast allZero needs among neededOf
-fits-I6 = refl

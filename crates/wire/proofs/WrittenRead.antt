@@ -1,10 +1,10 @@
--- What is written is read back: the fields, the AUTH-Key's place and the digest's, for all nine codes and with padding behind.
+-- What is written is read back: the fields, the AUTH-Key, its place and the digest's, for all nine codes and with padding behind.
 use Prim.Native.Nat.{ℕ, _+_, _-_, _≤_}
 use mathlib.Core.Path.{_≡_, refl, sym, ap, _∙_}
 use mathlib.Core.List.{List, [], _∷_, _++_}
 use mathlib.Core.Bool.{Bool, true, false, cond, _&&_}
 use lib.Dec.{leb}
-use lib.ListN.{length, getD, length-append}
+use lib.ListN.{length, getD, take, drop, length-append}
 use lib.Seq.{take-at}
 use native.Mathlib.Omega.{arith}
 use borrow.Author.Tests.{le-leb}
@@ -14,14 +14,14 @@ use Rattle.keys.specs.Questions.{firstNo}
 use Rattle.keys.proofs.TestLaws.{both}
 use Rattle.wire.specs.declared.fields.Fields.{Fields}
 use Rattle.wire.specs.declared.fields.Place.{Place}
-use Rattle.wire.specs.Attributes.{items, values, valueAt, startFrom, two, octets}
-use Rattle.wire.specs.Ranges.{neededOf, among, needs, sound}
+use Rattle.wire.specs.Attributes.{items, values, countOf, valueAt, startFrom, two, octets}
+use Rattle.wire.specs.Ranges.{neededOf, among, needs, good, sound}
 use Rattle.wire.specs.Messages.{lengthOf, bodyOf, isWhole, receives, receiverOf, messageAnswer}
 use Rattle.wire.specs.Reading.{noPlace, placeOf, takenOf, readOf}
 use Rattle.wire.specs.Limits.{fieldsFit, authKeyFits}
 use Rattle.wire.specs.Writing.{itemsOfType, itemsOfTypes, itemsOf, message, messageOf, writeOf, writtenOf, writeQuestions, noDigest}
 use Rattle.wire.proofs.AttributesLaws.{items-octets}
-use Rattle.wire.proofs.HoldsLaws.{never, length-attr}
+use Rattle.wire.proofs.HoldsLaws.{never, length-attr, all-whole, start-value}
 use Rattle.wire.proofs.MessageAnswers.{answer-done}
 use Rattle.wire.proofs.CodesLaws.{by-code}
 use Rattle.wire.proofs.FieldsFit.{Shaped, Fit, fit}
@@ -38,7 +38,7 @@ digestPlace f key digest = cond (needs (f .code) 11) (record { start = length (m
 
 -- a message's header, whatever follows it
 module _ (code identifier : ℕ) (body padding : List ℕ) (h : length body ≤ 1490) where
-  length-back : lengthOf (message code identifier body ++ padding) ≡ length body
+  pub length-back : lengthOf (message code identifier body ++ padding) ≡ length body
   unfolding lengthOf message two
   length-back = omega arith
 
@@ -46,7 +46,7 @@ module _ (code identifier : ℕ) (body padding : List ℕ) (h : length body ≤ 
   unfolding bodyOf message two
   body-back = take-at body padding (lengthOf (message code identifier body ++ padding)) (sym length-back)
 
-  length-message : length (message code identifier body ++ padding) ≡ 4 + length body + length padding
+  pub length-message : length (message code identifier body ++ padding) ≡ 4 + length body + length padding
   unfolding message two
   length-message = omega (arith, length-append body padding)
 
@@ -116,7 +116,7 @@ module _ (f : Fields) (key digest : List ℕ) (s : Shaped f) (t : Fit f key) (n 
     unfolding messageOf
     body-is = body-back (f .code) (f .identifier) (octets (itemsOf f key digest)) padding (body-fits f key digest s t n)
 
-    items-are : items (bodyOf (messageOf f key digest ++ padding)) ≡ itemsOf f key digest
+    pub items-are : items (bodyOf (messageOf f key digest ++ padding)) ≡ itemsOf f key digest
     items-are = ap items body-is ∙ items-octets (itemsOf f key digest) (short f key digest s t n)
 
     code-is : getD (messageOf f key digest ++ padding) 0 0 ≡ f .code
@@ -146,12 +146,42 @@ module _ (f : Fields) (key digest : List ℕ) (s : Shaped f) (t : Fit f key) (n 
     unfolding readOf takenOf
     back = rw (taken, code-is, identifier-is, items-are, fields-back f key digest s t, key-back, digest-back)
 
+    key-taken : takenOf (messageOf f key digest ++ padding) .key ≡ keyPlace f key
+    unfolding takenOf
+    key-taken = rw (code-is, items-are, key-back)
+
+    -- the octets behind the AUTH-Key's head are the key
+    key-octets : needs (f .code) 7 ≡ true → take (length key) (drop 7 (messageOf f key digest ++ padding)) ≡ key
+    unfolding messageOf message two valueAt values itemsOfType countOf
+    key-octets h =
+        let l = itemsOf f key digest in
+        let p = f .code ∷ f .identifier ∷ two (length (octets l)) in
+        let v : values 7 l ≡ key ∷ [] = written-values f key digest (t .low) (t .high) 7 h in
+        let found : take (length (valueAt 7 0 l)) (drop (startFrom 4 7 l) (p ++ (octets l ++ padding))) ≡ valueAt 7 0 l =
+        start-value 7 l 4 p padding refl (all-whole (good (f .code)) l (all-good f key digest s t n)) (omega (arith, ap length v)) in
+        rw (start-7 h, v) at found
+
 -- What is written is read back, for all nine codes, whatever padding follows
 pub written-read : (f : Fields) (key digest padding : List ℕ)
     → Shaped f → fieldsFit f ≡ true → authKeyFits f (length key) ≡ true → length digest ≡ 20
     → readOf (receiverOf (f .code)) (messageOf f key digest ++ padding)
     ≡ record { answer = Done; fields = f; key = keyPlace f key; digest = digestPlace f key digest }
 written-read f key digest padding s e k n = back f key digest s (fit f key e k) n padding
+
+-- The AUTH-Key, too: its octets stand behind seven others ..
+pub key-read : (f : Fields) (key digest padding : List ℕ)
+    → Shaped f → fieldsFit f ≡ true → authKeyFits f (length key) ≡ true → length digest ≡ 20 → needs (f .code) 7 ≡ true
+    → take (length key) (drop 7 (messageOf f key digest ++ padding)) ≡ key
+key-read f key digest padding s e k n h = key-octets f key digest s (fit f key e k) n padding h
+
+-- .. which is the place that the reading tells
+pub key-read-place : (f : Fields) (key digest padding : List ℕ)
+    → Shaped f → fieldsFit f ≡ true → authKeyFits f (length key) ≡ true → length digest ≡ 20 → needs (f .code) 7 ≡ true
+    → take (takenOf (messageOf f key digest ++ padding) .key .len)
+    (drop (takenOf (messageOf f key digest ++ padding) .key .start) (messageOf f key digest ++ padding))
+    ≡ key
+key-read-place f key digest padding s e k n h =
+    rw (key-taken f key digest s (fit f key e k) n padding, h) (key-read f key digest padding s e k n h)
 
 -- How long it is at the most
 pub written-lengths : (f : Fields) (key digest : List ℕ)
@@ -170,17 +200,34 @@ written-12 f key digest s e k n c =
     let most : mostOctets (f .code) ≡ 4 = ap mostOctets c in
     omega arith
 
--- The same of the writer's call: what it writes is read back, also with padding behind
+-- ---- the same of the writer's call, with zeros for the digest
+both-met : (a b : Bool) → firstNo (record { refusal = OutOfLimits; met = a } ∷ record { refusal = WrongLength; met = b } ∷ []) ≡ Done → (a ≡ true) × (b ≡ true)
+both-met true true e = (refl, refl)
+both-met true false e = let z : _≡_ {A = ℕ} 0 1 = cc in absurd (omega arith)
+both-met false b e = let z : _≡_ {A = ℕ} 0 1 = cc in absurd (omega arith)
+
+-- a call that is done: its questions are met, and it wrote the message
+pub call-asked : (f : Fields) (key : List ℕ) (lent : ℕ) → writeOf f key lent .answer ≡ Done
+    → (fieldsFit f ≡ true) × (authKeyFits f (length key) ≡ true) × (writtenOf f key lent ≡ messageOf f key noDigest)
+unfolding writeOf writtenOf writeQuestions
+call-asked f key lent done =
+    let asked = both-met (fieldsFit f) (authKeyFits f (length key) && leb (length (messageOf f key noDigest)) lent) done in
+    let second = both (authKeyFits f (length key)) (leb (length (messageOf f key noDigest)) lent) (asked .1) in
+    (asked .0, second .0, rw done)
+
+-- What it writes is read back, also with padding behind
 pub call-read : (f : Fields) (key padding : List ℕ) (lent : ℕ) → Shaped f → writeOf f key lent .answer ≡ Done
     → readOf (receiverOf (f .code)) (writtenOf f key lent ++ padding)
     ≡ record { answer = Done; fields = f; key = keyPlace f key; digest = digestPlace f key noDigest }
-unfolding writeOf writtenOf writeQuestions
-call-read f key padding lent shaped done =
-    let asked = both-met (fieldsFit f) (authKeyFits f (length key) && leb (length (messageOf f key noDigest)) lent) done in
-    let second = both (authKeyFits f (length key)) (leb (length (messageOf f key noDigest)) lent) (asked .1) in
-    rw (asked .0, asked .1) (written-read f key noDigest padding shaped (asked .0) (second .0) refl)
-  where
-    both-met : (a b : Bool) → firstNo (record { refusal = OutOfLimits; met = a } ∷ record { refusal = WrongLength; met = b } ∷ []) ≡ Done → (a ≡ true) × (b ≡ true)
-    both-met true true e = (refl, refl)
-    both-met true false e = let z : _≡_ {A = ℕ} 0 1 = cc in absurd (omega arith)
-    both-met false b e = let z : _≡_ {A = ℕ} 0 1 = cc in absurd (omega arith)
+call-read f key padding lent s done =
+    let a = call-asked f key lent done in
+    rw (a .2) (written-read f key noDigest padding s (a .0) (a .1) refl)
+
+-- and so is the AUTH-Key
+pub call-key : (f : Fields) (key padding : List ℕ) (lent : ℕ) → Shaped f → writeOf f key lent .answer ≡ Done → needs (f .code) 7 ≡ true
+    → take (readOf (receiverOf (f .code)) (writtenOf f key lent ++ padding) .key .len)
+    (drop (readOf (receiverOf (f .code)) (writtenOf f key lent ++ padding) .key .start) (writtenOf f key lent ++ padding))
+    ≡ key
+call-key f key padding lent s done h =
+    let a = call-asked f key lent done in
+    rw (call-read f key padding lent s done, h, a .2) (key-read f key noDigest padding s (a .0) (a .1) refl h)

@@ -5,6 +5,8 @@ use mathlib.Core.List.{List, [], _∷_}
 use mathlib.Core.Bool.{Bool, true, _&&_, _||_, not, cond}
 use lib.ListN.{getD, take}
 use lib.Dec.{leb, ltb, eqb}
+use Rattle.keys.specs.Numbers.{akInRange, tekInRange}
+use Rattle.keys.specs.Addresses.{saidFits}
 use Rattle.keys.specs.Suites.{suiteKnown, widthKnown}
 use Rattle.keys.specs.Octets.{zeroPast}
 use Rattle.wire.specs.declared.fields.KeyOctets.{KeyOctets}
@@ -26,7 +28,7 @@ unfoldable pub keyOctetsZero : KeyOctets → Bool
 keyOctetsZero k = eqb (k .width) 0 && zeroPast 0 (k .octets)
 
 unfoldable pub paramsFit : Params → Bool
-paramsFit p = leb (p .number .0) 15 && leb 1 (p .life) && leb (p .life) 604800 && keyOctetsFit (p .tek) && keyOctetsFit (p .vector)
+paramsFit p = tekInRange (p .number) && leb 1 (p .life) && leb (p .life) 604800 && keyOctetsFit (p .tek) && keyOctetsFit (p .vector)
 
 unfoldable pub paramsZero : Params → Bool
 paramsZero p = eqb (p .number .0) 0 && eqb (p .life) 0 && keyOctetsZero (p .tek) && keyOctetsZero (p .vector)
@@ -39,7 +41,7 @@ pairFit older newer =
     && ltb (older .life) (newer .life)
 
 unfoldable pub descriptorFit : Descriptor → Bool
-descriptorFit d = leb (d .said) 16383 && leb (d .kind) 2 && suiteKnown (d .suite)
+descriptorFit d = saidFits (d .said) && leb (d .kind) 2 && suiteKnown (d .suite)
 
 unfoldable pub descriptorZero : Descriptor → Bool
 descriptorZero d = eqb (d .said) 0 && eqb (d .kind) 0 && eqb (d .suite) 0
@@ -68,8 +70,8 @@ headFits c identifier = leb 4 c && leb c 12 && (not (eqb c 11 || eqb c 12) || eq
 unfoldable pub fieldsFit : Fields → Bool
 fieldsFit f =
     headFits (f .code) (f .identifier)
-    && carriedOr (needs (f .code) 10) (leb (f .ak .0) 15) (eqb (f .ak .0) 0)
-    && carriedOr (needs (f .code) 12) (leb (f .said) 16383) (eqb (f .said) 0)
+    && carriedOr (needs (f .code) 10) (akInRange (f .ak)) (eqb (f .ak .0) 0)
+    && carriedOr (needs (f .code) 12) (saidFits (f .said)) (eqb (f .said) 0)
     && carriedOr (needs (f .code) 9) (leb 1 (f .life) && leb (f .life) 12096000) (eqb (f .life) 0)
     && carriedOr (needs (f .code) 16) true (eqb (f .error) 0)
     && carriedOr (needs (f .code) 23) (descriptorsFit (f .count) (f .descriptors)) (descriptorsZero (f .count) (f .descriptors))

@@ -5,6 +5,7 @@ use mathlib.Core.List.{List, [], _∷_}
 use mathlib.Core.Bool.{Bool, true, false, _&&_, _||_, not, cond}
 use lib.ListN.{length, getD}
 use lib.Dec.{leb, eqb}
+use Rattle.keys.specs.Addresses.{saidFits}
 use Rattle.keys.specs.Suites.{suiteKnown, widthKnown}
 use Rattle.wire.specs.Attributes.{items, allOf, be16, be32}
 
@@ -55,7 +56,7 @@ fits h k v =
     (cond (eqb k 9) (eqb (length v) 4 && leb 1 (be32 v) && leb (be32 v) (longestLife h))
     (cond (eqb k 10) (eqb (length v) 1 && leb (getD v 0 0) 15)
     (cond (eqb k 11) (eqb (length v) 20)
-    (cond (eqb k 12) (eqb (length v) 2 && leb (be16 v) 16383)
+    (cond (eqb k 12) (eqb (length v) 2 && saidFits (be16 v))
     (cond (eqb k 15) (widthKnown (length v))
     (cond (eqb k 16) (eqb (length v) 1)
     (cond (eqb k 20) (eqb (length v) 2 && suiteKnown (be16 v))

@@ -17,7 +17,7 @@ use Rattle.wire.specs.Attributes.{two}
 use Rattle.wire.specs.Limits.{headFits, fieldsFit, authKeyFits}
 use Rattle.wire.specs.Writing.{message, messageOf, noDigest, writeQuestions, writtenOf, writeOf}
 use Rattle.keys.specs.Put.{Put}
-use Rattle.writer.specs.Parts.{Writable, BodyLength}
+use Rattle.writer_parts.specs.Parts.{Writable, BodyLength}
 use Rattle.keys.proofs.StoreLaws.{put-whole}
 
 fits-head : (f : Fields) → fieldsFit f ≡ true → headFits (f .code) (f .identifier) ≡ true

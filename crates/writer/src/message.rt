@@ -6,20 +6,20 @@ ghost use lib.ListN.{length, take};
 ghost use Rattle.wire.specs.Attributes.{attr};
 ghost use Rattle.wire.specs.Writing.{itemsOf, messageOf};
 ghost use Rattle.keys.specs.Put.{Put};
-ghost use Rattle.writer.specs.Put.{Wrote};
-ghost use Rattle.writer.specs.Parts.{paramsItem, namedItems, grantItems, Writable};
-use crate::lengths::body_len;
-use crate::put::put_attr;
-use crate::put::put_descriptors;
-use crate::put::put_four;
-use crate::put::put_octets;
-use crate::put::put_one;
-use crate::put::put_params;
-use crate::put::put_two;
+ghost use Rattle.writer_parts.specs.Put.{Wrote};
+ghost use Rattle.writer_parts.specs.Parts.{paramsItem, namedItems, grantItems, Writable};
 use keys::numbers::AkNumber;
 use wire::fields::Descriptor;
 use wire::fields::Fields;
 use wire::fields::Params;
+use writer_parts::lengths::body_len;
+use writer_parts::put::put_attr;
+use writer_parts::put::put_descriptors;
+use writer_parts::put::put_four;
+use writer_parts::put::put_octets;
+use writer_parts::put::put_one;
+use writer_parts::put::put_params;
+use writer_parts::put::put_two;
 
 fn put_named(out: &mut [u8], at: usize, ak: AkNumber, said: u16) -> usize
     requires { ⌜ at + 20 ≤ 4096 ⌝ }

@@ -3,14 +3,14 @@ ghost use mathlib.Core.Path.{_≡_};
 ghost use lib.ListN.{length};
 ghost use Rattle.keys.specs.Octets.{overlay};
 ghost use Rattle.wire.specs.Writing.{writeOf, writtenOf};
-use crate::lengths::body_len;
-use crate::limits::auth_key_fits;
-use crate::limits::fields_fit;
 use crate::message::put_message;
 use keys::refusal::Answer;
 use keys::refusal::Refusal;
 use wire::fields::Fields;
 use wire::fields::Writing;
+use writer_limits::limits::auth_key_fits;
+use writer_limits::limits::fields_fit;
+use writer_parts::lengths::body_len;
 
 // Writes the message of the fields at the front of `out`, with zeros for the digest's octets. `key` is the AUTH-Key's octets, which
 // an Authorization Reply carries. Where it refuses, nothing is written.

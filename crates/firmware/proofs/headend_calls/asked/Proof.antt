@@ -2,7 +2,7 @@
 use mathlib.Core.Path.{_∙_, ap}
 use borrow.Author.Needs.{needs}
 use borrow.Author.Tests.{le-leb, lt-leb}
-use Rattle.headend_steps.specs.State.{freshOf}
+use Rattle.headend_state.specs.State.{freshOf}
 use Rattle.firmware.proofs.headend_calls.asked.Statement.{statement}
 use Rattle.firmware.proofs.headend_calls.asked.Tie as tie
 

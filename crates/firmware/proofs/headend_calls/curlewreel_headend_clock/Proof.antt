@@ -41,14 +41,14 @@ use denote.Exit.{yes}
 use Rattle.firmware.specs.declared.headend_calls.HeadEndCall.{HeadEndCall}
 use Rattle.firmware.proofs.headend_calls.HeadEndCall as HeadEndCall₁
 use Rattle.firmware.proofs.headend_calls.HeadEndCall.Laws as HeadEndCall₁′
-use Rattle.headend_steps.specs.declared.state.HeadEnd.{HeadEnd}
-use Rattle.headend_steps.proofs.state.HeadEnd as HeadEnd₁
-use Rattle.headend_steps.proofs.state.HeadEnd.Laws as HeadEnd₁′
+use Rattle.headend_state.specs.declared.state.HeadEnd.{HeadEnd}
+use Rattle.headend_state.proofs.state.HeadEnd as HeadEnd₁
+use Rattle.headend_state.proofs.state.HeadEnd.Laws as HeadEnd₁′
 use Rattle.association.specs.declared.record.Assoc.{Assoc}
 use Rattle.association.proofs.record.Assoc as Assoc₁
-use Rattle.headend_steps.specs.declared.state.Called.{Called}
-use Rattle.headend_steps.proofs.state.Called as Called₁
-use Rattle.headend_steps.proofs.state.Called.Laws as Called₁′
+use Rattle.headend_state.specs.declared.state.Called.{Called}
+use Rattle.headend_state.proofs.state.Called as Called₁
+use Rattle.headend_state.proofs.state.Called.Laws as Called₁′
 use Rattle.headend.proofs.calls.clock as clock′
 use Rattle.headend.proofs.calls.clock.Symbol as clock-def
 use Rattle.headend.proofs.calls.clock.Symbol.{name as #headend·calls·clock}

@@ -41,17 +41,17 @@ use denote.Exit.{yes}
 use Rattle.firmware.specs.declared.headend_calls.HeadEndOpening.{HeadEndOpening}
 use Rattle.firmware.proofs.headend_calls.HeadEndOpening as HeadEndOpening₁
 use Rattle.firmware.proofs.headend_calls.HeadEndOpening.Laws as HeadEndOpening₁′
-use Rattle.headend_steps.specs.declared.state.HeadEnd.{HeadEnd}
-use Rattle.headend_steps.proofs.state.HeadEnd as HeadEnd₁
-use Rattle.headend_steps.proofs.state.HeadEnd.Laws as HeadEnd₁′
+use Rattle.headend_state.specs.declared.state.HeadEnd.{HeadEnd}
+use Rattle.headend_state.proofs.state.HeadEnd as HeadEnd₁
+use Rattle.headend_state.proofs.state.HeadEnd.Laws as HeadEnd₁′
 use Rattle.association.specs.declared.record.Assoc.{Assoc}
 use Rattle.association.proofs.record.Assoc as Assoc₁
 use Rattle.keys.specs.declared.numbers.TekNumber.{TekNumber}
 use Rattle.keys.proofs.numbers.TekNumber as TekNumber₁
 use Rattle.keys.proofs.numbers.TekNumber.Laws as TekNumber₁′
-use Rattle.headend_steps.specs.declared.frames.OpenedCall.{OpenedCall}
-use Rattle.headend_steps.proofs.frames.OpenedCall as OpenedCall₁
-use Rattle.headend_steps.proofs.frames.OpenedCall.Laws as OpenedCall₁′
+use Rattle.headend_frames.specs.declared.frames.OpenedCall.{OpenedCall}
+use Rattle.headend_frames.proofs.frames.OpenedCall as OpenedCall₁
+use Rattle.headend_frames.proofs.frames.OpenedCall.Laws as OpenedCall₁′
 use Rattle.firmware.proofs.headend_calls.tek_number as tek-number′
 use Rattle.firmware.proofs.headend_calls.tek_number.Symbol as tek-number-def
 use Rattle.firmware.proofs.headend_calls.tek_number.Symbol.{name as #firmware·headend-calls·tek-number}
@@ -66,7 +66,7 @@ use Rattle.firmware.proofs.headend_calls.headend_opening.Symbol.{name a
 use Rattle.firmware.proofs.headend_calls.headend_opening.Met as headend-opening-thm
 use Rattle.keys.specs.Octets.{overlay}
 use Rattle.headend.specs.FrameCalls.{openOf}
-use Rattle.headend_steps.specs.FrameCalled.{openCalled}
+use Rattle.headend_frames.specs.FrameCalled.{openCalled}
 use Rattle.firmware.specs.HeadEndCalls.{headEndOpening}
 use Rattle.firmware.proofs.headend_calls.curlewreel_headend_open.Key.{name as #here}
 use Rattle.firmware.proofs.headend_calls.curlewreel_headend_open as curlewreel-headend-open₀

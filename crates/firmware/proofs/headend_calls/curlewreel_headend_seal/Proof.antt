@@ -41,9 +41,9 @@ use denote.Exit.{yes}
 use Rattle.firmware.specs.declared.modem_calls.FrameSealed.{FrameSealed}
 use Rattle.firmware.proofs.modem_calls.FrameSealed as FrameSealed₁
 use Rattle.firmware.proofs.modem_calls.FrameSealed.Laws as FrameSealed₁′
-use Rattle.headend_steps.specs.declared.state.HeadEnd.{HeadEnd}
-use Rattle.headend_steps.proofs.state.HeadEnd as HeadEnd₁
-use Rattle.headend_steps.proofs.state.HeadEnd.Laws as HeadEnd₁′
+use Rattle.headend_state.specs.declared.state.HeadEnd.{HeadEnd}
+use Rattle.headend_state.proofs.state.HeadEnd as HeadEnd₁
+use Rattle.headend_state.proofs.state.HeadEnd.Laws as HeadEnd₁′
 use Rattle.association.specs.declared.record.Assoc.{Assoc}
 use Rattle.association.proofs.record.Assoc as Assoc₁
 use Rattle.keys.specs.declared.sealing.SealedCall.{SealedCall}

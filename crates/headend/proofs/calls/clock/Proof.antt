@@ -42,38 +42,38 @@ use denote.Triple.Spec.{Meets, tripleOf}
 use denote.Triple.Table.{entered, cited}
 use denote.Triple.Walked.{says, Stays, stay-slice, stay-none-slice, stay-none, walkOf, goes-slice, goes-none-slice, goes-none, Walks, ends-at, walked, walk-meets}
 use denote.Exit.{yes}
-use Rattle.headend_steps.specs.declared.state.Called.{Called}
-use Rattle.headend_steps.proofs.state.Called as Called₁
-use Rattle.headend_steps.proofs.state.Called.Laws as Called₁′
-use Rattle.headend_steps.specs.declared.state.HeadEnd.{HeadEnd}
-use Rattle.headend_steps.proofs.state.HeadEnd as HeadEnd₁
-use Rattle.headend_steps.proofs.state.HeadEnd.Laws as HeadEnd₁′
+use Rattle.headend_state.specs.declared.state.Called.{Called}
+use Rattle.headend_state.proofs.state.Called as Called₁
+use Rattle.headend_state.proofs.state.Called.Laws as Called₁′
+use Rattle.headend_state.specs.declared.state.HeadEnd.{HeadEnd}
+use Rattle.headend_state.proofs.state.HeadEnd as HeadEnd₁
+use Rattle.headend_state.proofs.state.HeadEnd.Laws as HeadEnd₁′
 use Rattle.association.specs.declared.record.Assoc.{Assoc}
 use Rattle.association.proofs.record.Assoc as Assoc₁
 use Rattle.association.proofs.record.Assoc.Laws as Assoc₁′
 use Rattle.association.specs.declared.search.Probe.{Probe}
 use Rattle.association.proofs.search.Probe as Probe₁
 use Rattle.association.proofs.search.Probe.Laws as Probe₁′
-use Rattle.headend_steps.proofs.search.out_of_limits as out-of-limits′
-use Rattle.headend_steps.proofs.search.out_of_limits.Symbol as out-of-limits-def
-use Rattle.headend_steps.proofs.search.out_of_limits.Symbol.{name as #headend-steps·search·out-of-limits}
-use Rattle.headend_steps.proofs.search.out_of_limits.Met as out-of-limits-thm
+use Rattle.headend_limits.proofs.search.out_of_limits as out-of-limits′
+use Rattle.headend_limits.proofs.search.out_of_limits.Symbol as out-of-limits-def
+use Rattle.headend_limits.proofs.search.out_of_limits.Symbol.{name as #headend-limits·search·out-of-limits}
+use Rattle.headend_limits.proofs.search.out_of_limits.Met as out-of-limits-thm
 use Rattle.records.proofs.first as first′
 use Rattle.records.proofs.first.Symbol as first-def
 use Rattle.records.proofs.first.Symbol.{name as #records·first}
 use Rattle.records.proofs.first.Met as first-thm
-use Rattle.headend_steps.proofs.search.half_in as half-in′
-use Rattle.headend_steps.proofs.search.half_in.Symbol as half-in-def
-use Rattle.headend_steps.proofs.search.half_in.Symbol.{name as #headend-steps·search·half-in}
-use Rattle.headend_steps.proofs.search.half_in.Met as half-in-thm
+use Rattle.headend_limits.proofs.search.half_in as half-in′
+use Rattle.headend_limits.proofs.search.half_in.Symbol as half-in-def
+use Rattle.headend_limits.proofs.search.half_in.Symbol.{name as #headend-limits·search·half-in}
+use Rattle.headend_limits.proofs.search.half_in.Met as half-in-thm
 use Rattle.headend_steps.proofs.clock.clock_called as clock-called′
 use Rattle.headend_steps.proofs.clock.clock_called.Symbol as clock-called-def
 use Rattle.headend_steps.proofs.clock.clock_called.Symbol.{name as #headend-steps·clock·clock-called}
 use Rattle.headend_steps.proofs.clock.clock_called.Met as clock-called-thm
-use Rattle.headend_steps.proofs.state.called_number as called-number′
-use Rattle.headend_steps.proofs.state.called_number.Symbol as called-number-def
-use Rattle.headend_steps.proofs.state.called_number.Symbol.{name as #headend-steps·state·called-number}
-use Rattle.headend_steps.proofs.state.called_number.Met as called-number-thm
+use Rattle.headend_state.proofs.state.called_number as called-number′
+use Rattle.headend_state.proofs.state.called_number.Symbol as called-number-def
+use Rattle.headend_state.proofs.state.called_number.Symbol.{name as #headend-state·state·called-number}
+use Rattle.headend_state.proofs.state.called_number.Met as called-number-thm
 use Rattle.records.proofs.roll as roll′
 use Rattle.records.proofs.roll.Symbol as roll-def
 use Rattle.records.proofs.roll.Symbol.{name as #records·roll}
@@ -83,7 +83,7 @@ use Rattle.records.specs.Records.{firstOf, rolledTo, RollFit}
 use Rattle.records.proofs.RecordsLaws.{holds, fails}
 use Rattle.records.proofs.Again.{LentAgain, lends-again, comes-back}
 use Rattle.records.proofs.Shown.{LentShown, shows-again, comes-home}
-use Rattle.headend_steps.specs.Search.{halfIn, outOfLimits}
+use Rattle.headend_limits.specs.Search.{halfIn, outOfLimits}
 use Rattle.headend_steps.specs.Clock.{clockCalled}
 use Rattle.headend.specs.Calls.{clockRecords}
 use Rattle.headend.proofs.CallsLaws.{clock-fit, clock-rolled, clock-kept}
@@ -260,7 +260,7 @@ module _ {M : Type 1} (𝓤 : URA M) (H : Heap 𝓤) (A : Atoms 𝓤) (W : Given
     goes-roll : (answerNumber ((clockCalled h t (firstOf (outOfLimits h) ys) (length ys) (length (material .now))) .answer)) ≡ 0 → ent 𝓤 (sep 𝓤 (A .lft (ν ∷ []) fullShare) (sep 𝓤 (A .lft μ p) (sem 𝓤 H A (fsep Lent Material′)))) (Rollᶜ 𝓤 H A mem run .pre to-roll)
     goes-roll zero = qed W (‵ (flft (ν ∷ []) fullShare) ∷ ‵ (flft μ p) ∷ ‵ (fsep Lent Material′) ∷ []) ∵ says ! (subst (λ (z : ℕ). RollFit (h .used) z t ys (length (material .now))) (sym half-e) (clock-fit h ys t (material .now) zero)) $ nothing ! $ move ! (2 ∷ 0 ∷ []) $ join ! $ move ! (1 ∷ 0 ∷ []) $ join ! $ frame ! $ fsplit ! $ nothing ! $ move ! (2 ∷ 0 ∷ []) $ fjoin ! $ owned ! u64 (Is u64) (uint-makes 𝓤 H A W w64) t _ (refl, t-fits) $ fjoin ! $ owned ! u64 (Is u64) (uint-makes 𝓤 H A W w64) half _ (refl, half-fits) $ fjoin ! $ owned ! usize (Is usize) (uint-makes 𝓤 H A W w64) (h .used) _ (refl, LL.owed HeadEnd₁.the-type HeadEnd₁′.the-laws h _ h-is .1 .1 .1 .1 .0 .1) $ fjoin ! $ move ! (1 ∷ 0 ∷ []) $ fjoin ! $ done !
 
-  module _ (C : Calls 𝓤 H) (Λ : Loops 𝓤 H) (fm : FmC 𝓤 H (W .laws) C) (known-out-of-limits : Triple 𝓤 (C #headend-steps·search·out-of-limits) (OutOfLimitsᶜ 𝓤 H A mem run)) (known-first : Triple 𝓤 (C #records·first) (Firstᶜ 𝓤 H A mem run)) (known-half-in : Triple 𝓤 (C #headend-steps·search·half-in) (HalfInᶜ 𝓤 H A mem run)) (known-clock-called : Triple 𝓤 (C #headend-steps·clock·clock-called) (ClockCalledᶜ 𝓤 H A mem run)) (known-called-number : Triple 𝓤 (C #headend-steps·state·called-number) (CalledNumberᶜ 𝓤 H A mem run)) (known-roll : Triple 𝓤 (C #records·roll) (Rollᶜ 𝓤 H A mem run)) (l₀ l₁ l₂ l₃ l₄ l₅ l₆ l₇ l₈ l₉ l₁₀ l₁₁ l₁₂ l₁₃ l₁₄ l₁₅ l₁₆ l₁₇ : ℕ) where
+  module _ (C : Calls 𝓤 H) (Λ : Loops 𝓤 H) (fm : FmC 𝓤 H (W .laws) C) (known-out-of-limits : Triple 𝓤 (C #headend-limits·search·out-of-limits) (OutOfLimitsᶜ 𝓤 H A mem run)) (known-first : Triple 𝓤 (C #records·first) (Firstᶜ 𝓤 H A mem run)) (known-half-in : Triple 𝓤 (C #headend-limits·search·half-in) (HalfInᶜ 𝓤 H A mem run)) (known-clock-called : Triple 𝓤 (C #headend-steps·clock·clock-called) (ClockCalledᶜ 𝓤 H A mem run)) (known-called-number : Triple 𝓤 (C #headend-state·state·called-number) (CalledNumberᶜ 𝓤 H A mem run)) (known-roll : Triple 𝓤 (C #records·roll) (Rollᶜ 𝓤 H A mem run)) (l₀ l₁ l₂ l₃ l₄ l₅ l₆ l₇ l₈ l₉ l₁₀ l₁₁ l₁₂ l₁₃ l₁₄ l₁₅ l₁₆ l₁₇ : ℕ) where
     abbrev En : Env 𝓤 H
     En = (Called₁′.mir, l₀) ∷ (HeadEnd₁′.mir, l₁) ∷ ((sliceTy (tyRef (named 0) mut (pointee (Assoc₁.the-row .written)))), l₂) ∷ ((tyInt w64), l₃) ∷ ((sliceTy (tyRef (named 1) imm (tyInt w8))), l₄) ∷ ((tyInt w64), l₅) ∷ ((tyInt w64), l₆) ∷ (Called₁′.mir, l₇) ∷ ((tyInt w8), l₈) ∷ ((tyRef erased imm (pointee (Assoc₁.the-row .written))), l₉) ∷ ((sliceTy (tyRef erased imm (pointee (Assoc₁.the-row .written)))), l₁₀) ∷ (Probe₁′.mir, l₁₁) ∷ ((tyInt w64), l₁₂) ∷ ((tyInt w64), l₁₃) ∷ (tyBool, l₁₄) ∷ (tyUnit, l₁₅) ∷ ((tyRef erased mut (pointee (Assoc₁.the-row .written))), l₁₆) ∷ ((sliceTy (tyRef erased mut (pointee (Assoc₁.the-row .written)))), l₁₇) ∷ []
 
@@ -442,7 +442,7 @@ module _ {M : Type 1} (𝓤 : URA M) (H : Heap 𝓤) (A : Atoms 𝓤) (W : Given
         forget ! 20 refl $
         stage-4 sick sick-u sick-is (sick-said)))))
 
-  module _ (C : Calls 𝓤 H) (Λ : Loops 𝓤 H) (fm : FmC 𝓤 H (W .laws) C) (known-out-of-limits : Triple 𝓤 (C #headend-steps·search·out-of-limits) (OutOfLimitsᶜ 𝓤 H A mem run)) (known-first : Triple 𝓤 (C #records·first) (Firstᶜ 𝓤 H A mem run)) (known-half-in : Triple 𝓤 (C #headend-steps·search·half-in) (HalfInᶜ 𝓤 H A mem run)) (known-clock-called : Triple 𝓤 (C #headend-steps·clock·clock-called) (ClockCalledᶜ 𝓤 H A mem run)) (known-called-number : Triple 𝓤 (C #headend-steps·state·called-number) (CalledNumberᶜ 𝓤 H A mem run)) (known-roll : Triple 𝓤 (C #records·roll) (Rollᶜ 𝓤 H A mem run)) where
+  module _ (C : Calls 𝓤 H) (Λ : Loops 𝓤 H) (fm : FmC 𝓤 H (W .laws) C) (known-out-of-limits : Triple 𝓤 (C #headend-limits·search·out-of-limits) (OutOfLimitsᶜ 𝓤 H A mem run)) (known-first : Triple 𝓤 (C #records·first) (Firstᶜ 𝓤 H A mem run)) (known-half-in : Triple 𝓤 (C #headend-limits·search·half-in) (HalfInᶜ 𝓤 H A mem run)) (known-clock-called : Triple 𝓤 (C #headend-steps·clock·clock-called) (ClockCalledᶜ 𝓤 H A mem run)) (known-called-number : Triple 𝓤 (C #headend-state·state·called-number) (CalledNumberᶜ 𝓤 H A mem run)) (known-roll : Triple 𝓤 (C #records·roll) (Rollᶜ 𝓤 H A mem run)) where
     walk : ent 𝓤 (onEntry 𝓤 H A clock₀.signature (κ, (μ, tt)) (q, (p, tt)) a vals) (WpFn 𝓤 H C Λ code.function ((LL.val HeadEnd₁.the-type HeadEnd₁′.the-laws h) ∷ records-val ∷ (vint w64 t) ∷ material-val ∷ []) Post)
     walk =
         qed W ((‵ (flft κ q) ⊛ (‵ (flft μ p) ⊛ ‵ ftrue)) ∷ ‵ (owns (HeadEnd₁.the-row ∷ MutSlice (named 0) κ Assoc₁.the-row ∷ u64 ∷ ShrSlice (named 1) μ u8 ∷ []) a vals) ∷ []) ∵ enter ! C Λ code.function ((LL.val HeadEnd₁.the-type HeadEnd₁′.the-laws h) ∷ records-val ∷ (vint w64 t) ∷ material-val ∷ []) _ $
@@ -453,13 +453,13 @@ module _ {M : Type 1} (𝓤 : URA M) (H : Heap 𝓤) (A : Atoms 𝓤) (W : Given
         stage-1 C Λ fm known-out-of-limits known-first known-half-in known-clock-called known-called-number known-roll l₀ l₁ l₂ l₃ l₄ l₅ l₆ l₇ l₈ l₉ l₁₀ l₁₁ l₁₂ l₁₃ l₁₄ l₁₅ l₁₆ l₁₇))))))))))))))))))
 
 module _ {M : Type 1} (𝓤 : URA M) (H : Heap 𝓤) (A : Atoms 𝓤) (W : Given 𝓤 H A) (mem : Memory → SProp 𝓤) (run : Routine → Fun 𝓤) where
-  clock-walks : (C : Calls 𝓤 H) (Λ : Loops 𝓤 H) → FmC 𝓤 H (W .laws) C → Triple 𝓤 (C #headend-steps·search·out-of-limits) (OutOfLimitsᶜ 𝓤 H A mem run) → Triple 𝓤 (C #records·first) (Firstᶜ 𝓤 H A mem run) → Triple 𝓤 (C #headend-steps·search·half-in) (HalfInᶜ 𝓤 H A mem run) → Triple 𝓤 (C #headend-steps·clock·clock-called) (ClockCalledᶜ 𝓤 H A mem run) → Triple 𝓤 (C #headend-steps·state·called-number) (CalledNumberᶜ 𝓤 H A mem run) → Triple 𝓤 (C #records·roll) (Rollᶜ 𝓤 H A mem run) → Walks 𝓤 H A clock₀.ended stayed (WpFn 𝓤 H C Λ code.function) (clock₀.clauses 𝓤 H A mem run)
+  clock-walks : (C : Calls 𝓤 H) (Λ : Loops 𝓤 H) → FmC 𝓤 H (W .laws) C → Triple 𝓤 (C #headend-limits·search·out-of-limits) (OutOfLimitsᶜ 𝓤 H A mem run) → Triple 𝓤 (C #records·first) (Firstᶜ 𝓤 H A mem run) → Triple 𝓤 (C #headend-limits·search·half-in) (HalfInᶜ 𝓤 H A mem run) → Triple 𝓤 (C #headend-steps·clock·clock-called) (ClockCalledᶜ 𝓤 H A mem run) → Triple 𝓤 (C #headend-state·state·called-number) (CalledNumberᶜ 𝓤 H A mem run) → Triple 𝓤 (C #records·roll) (Rollᶜ 𝓤 H A mem run) → Walks 𝓤 H A clock₀.ended stayed (WpFn 𝓤 H C Λ code.function) (clock₀.clauses 𝓤 H A mem run)
   clock-walks C Λ fm known-out-of-limits known-first known-half-in known-clock-called known-called-number known-roll = walked 𝓤 H A clock₀.ended stayed (clock₀.clauses 𝓤 H A mem run) (WpFn 𝓤 H C Λ code.function)
       (λ κs. (LL.vals HeadEnd₁.the-type HeadEnd₁′.the-laws, (slice-vals, (uint-vals w64, (slice-vals, tt))))) (λ κs. (LL.tells HeadEnd₁.the-type HeadEnd₁′.the-laws, (mut-slice-tells (named 0) (κs .0) Assoc₁.the-row, (uint-tells w64, (shr-slice-tells (named 1) (κs .1 .0) u8, tt)))))
       (λ κs qs bounds a g are. via 𝓤 _ (fst∗ 𝓤 _ (emp 𝓤))
       (walk 𝓤 H A W mem run (κs .0) (κs .1 .0) (qs .0) (qs .1 .0) (a .0) (a .1 .0 .ptr .0) (a .1 .0 .ptr .1) (a .1 .0 .name) (a .1 .0 .now) (a .1 .1 .0) (a .1 .1 .1 .0) (are .0) (are .1 .0 .0 .1) (are .1 .1 .0 .1) (are .1 .1 .1 .0 .0 .1) C Λ fm known-out-of-limits known-first known-half-in known-clock-called known-called-number known-roll))
 
-clock-meets : {M : Type 1} (𝓤 : URA M) (H : Heap 𝓤) (A : Atoms 𝓤) → Given 𝓤 H A → (mem : Memory → SProp 𝓤) (run : Routine → Fun 𝓤) (𝓣 : Tables 𝓤 H) → Triple 𝓤 (𝓣 .C #headend-steps·search·out-of-limits) (OutOfLimitsᶜ 𝓤 H A mem run) → Triple 𝓤 (𝓣 .C #records·first) (Firstᶜ 𝓤 H A mem run) → Triple 𝓤 (𝓣 .C #headend-steps·search·half-in) (HalfInᶜ 𝓤 H A mem run) → Triple 𝓤 (𝓣 .C #headend-steps·clock·clock-called) (ClockCalledᶜ 𝓤 H A mem run) → Triple 𝓤 (𝓣 .C #headend-steps·state·called-number) (CalledNumberᶜ 𝓤 H A mem run) → Triple 𝓤 (𝓣 .C #records·roll) (Rollᶜ 𝓤 H A mem run)
+clock-meets : {M : Type 1} (𝓤 : URA M) (H : Heap 𝓤) (A : Atoms 𝓤) → Given 𝓤 H A → (mem : Memory → SProp 𝓤) (run : Routine → Fun 𝓤) (𝓣 : Tables 𝓤 H) → Triple 𝓤 (𝓣 .C #headend-limits·search·out-of-limits) (OutOfLimitsᶜ 𝓤 H A mem run) → Triple 𝓤 (𝓣 .C #records·first) (Firstᶜ 𝓤 H A mem run) → Triple 𝓤 (𝓣 .C #headend-limits·search·half-in) (HalfInᶜ 𝓤 H A mem run) → Triple 𝓤 (𝓣 .C #headend-steps·clock·clock-called) (ClockCalledᶜ 𝓤 H A mem run) → Triple 𝓤 (𝓣 .C #headend-state·state·called-number) (CalledNumberᶜ 𝓤 H A mem run) → Triple 𝓤 (𝓣 .C #records·roll) (Rollᶜ 𝓤 H A mem run)
     → Meets 𝓤 H A clock₀.signature (WpFn 𝓤 H (𝓣 .C) (𝓣 .Λ) code.function) (clock₀.spec 𝓤 H A mem run)
 clock-meets 𝓤 H A W mem run 𝓣 known-out-of-limits known-first known-half-in known-clock-called known-called-number known-roll =
     walk-meets 𝓤 H A clock₀.ended stayed W (goes-none 𝓤 H A W 2 (λ _. HeadEnd₁.the-row) yes (λ κs x f. refl), (goes-slice 𝓤 H A W 2 0 tt (plain (λ _. Assoc₁.the-row)), (goes-none 𝓤 H A W 2 (λ _. u64) yes (λ κs x f. refl), (goes-none-slice 𝓤 H A W 2 (1 ∷ []) tt (plain (λ _. u8)) yes, tt)))) (clock₀.clauses 𝓤 H A mem run)
@@ -471,9 +471,9 @@ clock-spec 𝓤 H 𝓜 𝓖 𝓡 =
     entered 𝓤 H (tripleOf 𝓤 H (𝓖 .A) clock₀.signature (clock₀.spec 𝓤 H (𝓖 .A) (𝓜 .mem) (𝓡 .run)))
     (tables 𝓤 H 𝓜 𝓡 code.env .C) (tables 𝓤 H 𝓜 𝓡 code.env .Λ) #here code.function (code.unfolded 𝓤 H 𝓜 𝓡)
     (clock-meets 𝓤 H (𝓖 .A) (givenOf 𝓤 H 𝓜 𝓖) (𝓜 .mem) (𝓡 .run) (tablesOf 𝓤 H 𝓜 (tables 𝓤 H 𝓜 𝓡 code.env))
-    (cited 𝓤 H (OutOfLimitsᶜ 𝓤 H (𝓖 .A) (𝓜 .mem) (𝓡 .run)) 𝓜 𝓡 code.env #headend-steps·search·out-of-limits out-of-limits-def.routine code.calls-headend-steps·search·out-of-limits (out-of-limits-thm.met 𝓤 H 𝓜 𝓖 𝓡))
+    (cited 𝓤 H (OutOfLimitsᶜ 𝓤 H (𝓖 .A) (𝓜 .mem) (𝓡 .run)) 𝓜 𝓡 code.env #headend-limits·search·out-of-limits out-of-limits-def.routine code.calls-headend-limits·search·out-of-limits (out-of-limits-thm.met 𝓤 H 𝓜 𝓖 𝓡))
     (cited 𝓤 H (Firstᶜ 𝓤 H (𝓖 .A) (𝓜 .mem) (𝓡 .run)) 𝓜 𝓡 code.env #records·first first-def.routine code.calls-records·first (first-thm.met 𝓤 H 𝓜 𝓖 𝓡))
-    (cited 𝓤 H (HalfInᶜ 𝓤 H (𝓖 .A) (𝓜 .mem) (𝓡 .run)) 𝓜 𝓡 code.env #headend-steps·search·half-in half-in-def.routine code.calls-headend-steps·search·half-in (half-in-thm.met 𝓤 H 𝓜 𝓖 𝓡))
+    (cited 𝓤 H (HalfInᶜ 𝓤 H (𝓖 .A) (𝓜 .mem) (𝓡 .run)) 𝓜 𝓡 code.env #headend-limits·search·half-in half-in-def.routine code.calls-headend-limits·search·half-in (half-in-thm.met 𝓤 H 𝓜 𝓖 𝓡))
     (cited 𝓤 H (ClockCalledᶜ 𝓤 H (𝓖 .A) (𝓜 .mem) (𝓡 .run)) 𝓜 𝓡 code.env #headend-steps·clock·clock-called clock-called-def.routine code.calls-headend-steps·clock·clock-called (clock-called-thm.met 𝓤 H 𝓜 𝓖 𝓡))
-    (cited 𝓤 H (CalledNumberᶜ 𝓤 H (𝓖 .A) (𝓜 .mem) (𝓡 .run)) 𝓜 𝓡 code.env #headend-steps·state·called-number called-number-def.routine code.calls-headend-steps·state·called-number (called-number-thm.met 𝓤 H 𝓜 𝓖 𝓡))
+    (cited 𝓤 H (CalledNumberᶜ 𝓤 H (𝓖 .A) (𝓜 .mem) (𝓡 .run)) 𝓜 𝓡 code.env #headend-state·state·called-number called-number-def.routine code.calls-headend-state·state·called-number (called-number-thm.met 𝓤 H 𝓜 𝓖 𝓡))
     (cited 𝓤 H (Rollᶜ 𝓤 H (𝓖 .A) (𝓜 .mem) (𝓡 .run)) 𝓜 𝓡 code.env #records·roll roll-def.routine code.calls-records·roll (roll-thm.met 𝓤 H 𝓜 𝓖 𝓡)))

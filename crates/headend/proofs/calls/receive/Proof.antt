@@ -40,12 +40,12 @@ use denote.Triple.Spec.{Meets, tripleOf}
 use denote.Triple.Table.{entered, cited}
 use denote.Triple.Walked.{says, Stays, stay-none-slice, stay-none, gave-slice, walkOf, goes-none-slice, goes-none, goes-gave-slice, Walks, ends-at, walked, walk-meets}
 use denote.Exit.{yes}
-use Rattle.headend_steps.specs.declared.state.Called.{Called}
-use Rattle.headend_steps.proofs.state.Called as Called₁
-use Rattle.headend_steps.proofs.state.Called.Laws as Called₁′
-use Rattle.headend_steps.specs.declared.state.HeadEnd.{HeadEnd}
-use Rattle.headend_steps.proofs.state.HeadEnd as HeadEnd₁
-use Rattle.headend_steps.proofs.state.HeadEnd.Laws as HeadEnd₁′
+use Rattle.headend_state.specs.declared.state.Called.{Called}
+use Rattle.headend_state.proofs.state.Called as Called₁
+use Rattle.headend_state.proofs.state.Called.Laws as Called₁′
+use Rattle.headend_state.specs.declared.state.HeadEnd.{HeadEnd}
+use Rattle.headend_state.proofs.state.HeadEnd as HeadEnd₁
+use Rattle.headend_state.proofs.state.HeadEnd.Laws as HeadEnd₁′
 use Rattle.association.specs.declared.record.Assoc.{Assoc}
 use Rattle.association.proofs.record.Assoc as Assoc₁
 use Rattle.wire.specs.declared.fields.Reading.{Reading}
@@ -57,10 +57,10 @@ use Rattle.association.proofs.search.Found.Laws as Found₁′
 use Rattle.association.specs.declared.search.Probe.{Probe}
 use Rattle.association.proofs.search.Probe as Probe₁
 use Rattle.association.proofs.search.Probe.Laws as Probe₁′
-use Rattle.headend_steps.proofs.search.out_of_limits as out-of-limits′
-use Rattle.headend_steps.proofs.search.out_of_limits.Symbol as out-of-limits-def
-use Rattle.headend_steps.proofs.search.out_of_limits.Symbol.{name as #headend-steps·search·out-of-limits}
-use Rattle.headend_steps.proofs.search.out_of_limits.Met as out-of-limits-thm
+use Rattle.headend_limits.proofs.search.out_of_limits as out-of-limits′
+use Rattle.headend_limits.proofs.search.out_of_limits.Symbol as out-of-limits-def
+use Rattle.headend_limits.proofs.search.out_of_limits.Symbol.{name as #headend-limits·search·out-of-limits}
+use Rattle.headend_limits.proofs.search.out_of_limits.Met as out-of-limits-thm
 use Rattle.records.proofs.first as first′
 use Rattle.records.proofs.first.Symbol as first-def
 use Rattle.records.proofs.first.Symbol.{name as #records·first}
@@ -69,10 +69,10 @@ use Rattle.headend_steps.proofs.receive.read_request as read-request′
 use Rattle.headend_steps.proofs.receive.read_request.Symbol as read-request-def
 use Rattle.headend_steps.proofs.receive.read_request.Symbol.{name as #headend-steps·receive·read-request}
 use Rattle.headend_steps.proofs.receive.read_request.Met as read-request-thm
-use Rattle.headend_steps.proofs.search.of_request as of-request′
-use Rattle.headend_steps.proofs.search.of_request.Symbol as of-request-def
-use Rattle.headend_steps.proofs.search.of_request.Symbol.{name as #headend-steps·search·of-request}
-use Rattle.headend_steps.proofs.search.of_request.Met as of-request-thm
+use Rattle.headend_limits.proofs.search.of_request as of-request′
+use Rattle.headend_limits.proofs.search.of_request.Symbol as of-request-def
+use Rattle.headend_limits.proofs.search.of_request.Symbol.{name as #headend-limits·search·of-request}
+use Rattle.headend_limits.proofs.search.of_request.Met as of-request-thm
 use Rattle.records.proofs.lookup as lookup′
 use Rattle.records.proofs.lookup.Symbol as lookup-def
 use Rattle.records.proofs.lookup.Symbol.{name as #records·lookup}
@@ -85,7 +85,7 @@ use Rattle.keys.specs.Octets.{overlay}
 use Rattle.wire.specs.declared.fields.Receiver.the-variants.{HeadEnd as AtHeadEnd}
 use Rattle.wire.specs.Reading.{readOf}
 use Rattle.records.specs.Records.{firstOf, lookupOf}
-use Rattle.headend_steps.specs.Search.{outOfLimits, ofRequest}
+use Rattle.headend_limits.specs.Search.{outOfLimits, ofRequest}
 use Rattle.headend_steps.specs.Receive.{receiveCalled, receiveWritten}
 use Rattle.headend.proofs.calls.receive.Key.{name as #here}
 use Rattle.headend.proofs.calls.receive as receive₀
@@ -260,7 +260,7 @@ module _ {M : Type 1} (𝓤 : URA M) (H : Heap 𝓤) (A : Atoms 𝓤) (W : Given
     abbrev Given-back : Called → List ℕ → Type 0
     Given-back r zs-out = (r ≡ receiveCalled h bad (length (records .now)) found address digest reading (key .now) (length (out .now))) × ((zs-out ≡ overlay (out .now) (receiveWritten h bad (length (records .now)) found address digest reading (key .now) (length (out .now)))))
 
-  module _ (C : Calls 𝓤 H) (Λ : Loops 𝓤 H) (fm : FmC 𝓤 H (W .laws) C) (known-out-of-limits : Triple 𝓤 (C #headend-steps·search·out-of-limits) (OutOfLimitsᶜ 𝓤 H A mem run)) (known-first : Triple 𝓤 (C #records·first) (Firstᶜ 𝓤 H A mem run)) (known-read-request : Triple 𝓤 (C #headend-steps·receive·read-request) (ReadRequestᶜ 𝓤 H A mem run)) (known-of-request : Triple 𝓤 (C #headend-steps·search·of-request) (OfRequestᶜ 𝓤 H A mem run)) (known-lookup : Triple 𝓤 (C #records·lookup) (Lookupᶜ 𝓤 H A mem run)) (known-receive-called : Triple 𝓤 (C #headend-steps·receive·receive-called) (ReceiveCalledᶜ 𝓤 H A mem run)) (l₀ l₁ l₂ l₃ l₄ l₅ l₆ l₇ l₈ l₉ l₁₀ l₁₁ l₁₂ l₁₃ l₁₄ : ℕ) where
+  module _ (C : Calls 𝓤 H) (Λ : Loops 𝓤 H) (fm : FmC 𝓤 H (W .laws) C) (known-out-of-limits : Triple 𝓤 (C #headend-limits·search·out-of-limits) (OutOfLimitsᶜ 𝓤 H A mem run)) (known-first : Triple 𝓤 (C #records·first) (Firstᶜ 𝓤 H A mem run)) (known-read-request : Triple 𝓤 (C #headend-steps·receive·read-request) (ReadRequestᶜ 𝓤 H A mem run)) (known-of-request : Triple 𝓤 (C #headend-limits·search·of-request) (OfRequestᶜ 𝓤 H A mem run)) (known-lookup : Triple 𝓤 (C #records·lookup) (Lookupᶜ 𝓤 H A mem run)) (known-receive-called : Triple 𝓤 (C #headend-steps·receive·receive-called) (ReceiveCalledᶜ 𝓤 H A mem run)) (l₀ l₁ l₂ l₃ l₄ l₅ l₆ l₇ l₈ l₉ l₁₀ l₁₁ l₁₂ l₁₃ l₁₄ : ℕ) where
     abbrev En : Env 𝓤 H
     En = (Called₁′.mir, l₀) ∷ (HeadEnd₁′.mir, l₁) ∷ ((sliceTy (tyRef (named 0) imm (pointee (Assoc₁.the-row .written)))), l₂) ∷ ((tyInt w64), l₃) ∷ (tyBool, l₄) ∷ ((sliceTy (tyRef (named 1) imm (tyInt w8))), l₅) ∷ ((sliceTy (tyRef (named 2) imm (tyInt w8))), l₆) ∷ ((sliceTy (tyRef (named 3) mut (tyInt w8))), l₇) ∷ ((tyInt w64), l₈) ∷ (Reading₁′.mir, l₉) ∷ (Found₁′.mir, l₁₀) ∷ (Probe₁′.mir, l₁₁) ∷ ((tyInt w64), l₁₂) ∷ ((tyRef erased mut (tyInt w8)), l₁₃) ∷ ((sliceTy (tyRef erased mut (tyInt w8))), l₁₄) ∷ []
 
@@ -429,7 +429,7 @@ module _ {M : Type 1} (𝓤 : URA M) (H : Heap 𝓤) (A : Atoms 𝓤) (W : Given
         land ! (from ! (stop !)) (init ! 14 refl (EL.lawful Probe₁.the-type Probe₁′.the-laws 𝓤 H A W tt .typed sick _ sick-is .0)) $
         stage-2 sick sick-u sick-is (sick-said)))))
 
-  module _ (C : Calls 𝓤 H) (Λ : Loops 𝓤 H) (fm : FmC 𝓤 H (W .laws) C) (known-out-of-limits : Triple 𝓤 (C #headend-steps·search·out-of-limits) (OutOfLimitsᶜ 𝓤 H A mem run)) (known-first : Triple 𝓤 (C #records·first) (Firstᶜ 𝓤 H A mem run)) (known-read-request : Triple 𝓤 (C #headend-steps·receive·read-request) (ReadRequestᶜ 𝓤 H A mem run)) (known-of-request : Triple 𝓤 (C #headend-steps·search·of-request) (OfRequestᶜ 𝓤 H A mem run)) (known-lookup : Triple 𝓤 (C #records·lookup) (Lookupᶜ 𝓤 H A mem run)) (known-receive-called : Triple 𝓤 (C #headend-steps·receive·receive-called) (ReceiveCalledᶜ 𝓤 H A mem run)) where
+  module _ (C : Calls 𝓤 H) (Λ : Loops 𝓤 H) (fm : FmC 𝓤 H (W .laws) C) (known-out-of-limits : Triple 𝓤 (C #headend-limits·search·out-of-limits) (OutOfLimitsᶜ 𝓤 H A mem run)) (known-first : Triple 𝓤 (C #records·first) (Firstᶜ 𝓤 H A mem run)) (known-read-request : Triple 𝓤 (C #headend-steps·receive·read-request) (ReadRequestᶜ 𝓤 H A mem run)) (known-of-request : Triple 𝓤 (C #headend-limits·search·of-request) (OfRequestᶜ 𝓤 H A mem run)) (known-lookup : Triple 𝓤 (C #records·lookup) (Lookupᶜ 𝓤 H A mem run)) (known-receive-called : Triple 𝓤 (C #headend-steps·receive·receive-called) (ReceiveCalledᶜ 𝓤 H A mem run)) where
     walk : ent 𝓤 (onEntry 𝓤 H A receive₀.signature (κ, (μ, (κ₃, (κ₄, tt)))) (q, (p, (q₃, (q₄, tt)))) a vals) (WpFn 𝓤 H C Λ code.function ((LL.val HeadEnd₁.the-type HeadEnd₁′.the-laws h) ∷ records-val ∷ (vint w64 address) ∷ (vbool digest) ∷ message-val ∷ key-val ∷ out-val ∷ []) Post)
     walk =
         qed W ((‵ (flft κ q) ⊛ (‵ (flft μ p) ⊛ (‵ (flft κ₃ q₃) ⊛ (‵ (flft κ₄ q₄) ⊛ ‵ ftrue)))) ∷ ‵ (owns (HeadEnd₁.the-row ∷ ShrSlice (named 0) κ Assoc₁.the-row ∷ u64 ∷ bool ∷ ShrSlice (named 1) μ u8 ∷ ShrSlice (named 2) κ₃ u8 ∷ MutSlice (named 3) κ₄ u8 ∷ []) a vals) ∷ []) ∵ enter ! C Λ code.function ((LL.val HeadEnd₁.the-type HeadEnd₁′.the-laws h) ∷ records-val ∷ (vint w64 address) ∷ (vbool digest) ∷ message-val ∷ key-val ∷ out-val ∷ []) _ $
@@ -440,13 +440,13 @@ module _ {M : Type 1} (𝓤 : URA M) (H : Heap 𝓤) (A : Atoms 𝓤) (W : Given
         stage-1 C Λ fm known-out-of-limits known-first known-read-request known-of-request known-lookup known-receive-called l₀ l₁ l₂ l₃ l₄ l₅ l₆ l₇ l₈ l₉ l₁₀ l₁₁ l₁₂ l₁₃ l₁₄)))))))))))))))
 
 module _ {M : Type 1} (𝓤 : URA M) (H : Heap 𝓤) (A : Atoms 𝓤) (W : Given 𝓤 H A) (mem : Memory → SProp 𝓤) (run : Routine → Fun 𝓤) where
-  receive-walks : (C : Calls 𝓤 H) (Λ : Loops 𝓤 H) → FmC 𝓤 H (W .laws) C → Triple 𝓤 (C #headend-steps·search·out-of-limits) (OutOfLimitsᶜ 𝓤 H A mem run) → Triple 𝓤 (C #records·first) (Firstᶜ 𝓤 H A mem run) → Triple 𝓤 (C #headend-steps·receive·read-request) (ReadRequestᶜ 𝓤 H A mem run) → Triple 𝓤 (C #headend-steps·search·of-request) (OfRequestᶜ 𝓤 H A mem run) → Triple 𝓤 (C #records·lookup) (Lookupᶜ 𝓤 H A mem run) → Triple 𝓤 (C #headend-steps·receive·receive-called) (ReceiveCalledᶜ 𝓤 H A mem run) → Walks 𝓤 H A receive₀.ended stayed (WpFn 𝓤 H C Λ code.function) (receive₀.clauses 𝓤 H A mem run)
+  receive-walks : (C : Calls 𝓤 H) (Λ : Loops 𝓤 H) → FmC 𝓤 H (W .laws) C → Triple 𝓤 (C #headend-limits·search·out-of-limits) (OutOfLimitsᶜ 𝓤 H A mem run) → Triple 𝓤 (C #records·first) (Firstᶜ 𝓤 H A mem run) → Triple 𝓤 (C #headend-steps·receive·read-request) (ReadRequestᶜ 𝓤 H A mem run) → Triple 𝓤 (C #headend-limits·search·of-request) (OfRequestᶜ 𝓤 H A mem run) → Triple 𝓤 (C #records·lookup) (Lookupᶜ 𝓤 H A mem run) → Triple 𝓤 (C #headend-steps·receive·receive-called) (ReceiveCalledᶜ 𝓤 H A mem run) → Walks 𝓤 H A receive₀.ended stayed (WpFn 𝓤 H C Λ code.function) (receive₀.clauses 𝓤 H A mem run)
   receive-walks C Λ fm known-out-of-limits known-first known-read-request known-of-request known-lookup known-receive-called = walked 𝓤 H A receive₀.ended stayed (receive₀.clauses 𝓤 H A mem run) (WpFn 𝓤 H C Λ code.function)
       (λ κs. (LL.vals HeadEnd₁.the-type HeadEnd₁′.the-laws, (slice-vals, (uint-vals w64, (bool-vals, (slice-vals, (slice-vals, (slice-vals, tt)))))))) (λ κs. (LL.tells HeadEnd₁.the-type HeadEnd₁′.the-laws, (shr-slice-tells (named 0) (κs .0) Assoc₁.the-row, (uint-tells w64, (bool-tells, (shr-slice-tells (named 1) (κs .1 .0) u8, (shr-slice-tells (named 2) (κs .1 .1 .0) u8, (mut-slice-tells (named 3) (κs .1 .1 .1 .0) u8, tt))))))))
       (λ κs qs bounds a g are. via 𝓤 _ (fst∗ 𝓤 _ (emp 𝓤))
       (walk 𝓤 H A W mem run (κs .0) (κs .1 .0) (κs .1 .1 .0) (κs .1 .1 .1 .0) (qs .0) (qs .1 .0) (qs .1 .1 .0) (qs .1 .1 .1 .0) (a .0) (a .1 .0) (a .1 .1 .0) (a .1 .1 .1 .0) (a .1 .1 .1 .1 .0) (a .1 .1 .1 .1 .1 .0) (a .1 .1 .1 .1 .1 .1 .0) (are .0) (are .1 .0 .0 .1) (are .1 .1 .0 .1) (are .1 .1 .1 .1 .0 .0 .1) (are .1 .1 .1 .1 .1 .0 .0 .1) (are .1 .1 .1 .1 .1 .1 .0 .0 .1) C Λ fm known-out-of-limits known-first known-read-request known-of-request known-lookup known-receive-called))
 
-receive-meets : {M : Type 1} (𝓤 : URA M) (H : Heap 𝓤) (A : Atoms 𝓤) → Given 𝓤 H A → (mem : Memory → SProp 𝓤) (run : Routine → Fun 𝓤) (𝓣 : Tables 𝓤 H) → Triple 𝓤 (𝓣 .C #headend-steps·search·out-of-limits) (OutOfLimitsᶜ 𝓤 H A mem run) → Triple 𝓤 (𝓣 .C #records·first) (Firstᶜ 𝓤 H A mem run) → Triple 𝓤 (𝓣 .C #headend-steps·receive·read-request) (ReadRequestᶜ 𝓤 H A mem run) → Triple 𝓤 (𝓣 .C #headend-steps·search·of-request) (OfRequestᶜ 𝓤 H A mem run) → Triple 𝓤 (𝓣 .C #records·lookup) (Lookupᶜ 𝓤 H A mem run) → Triple 𝓤 (𝓣 .C #headend-steps·receive·receive-called) (ReceiveCalledᶜ 𝓤 H A mem run)
+receive-meets : {M : Type 1} (𝓤 : URA M) (H : Heap 𝓤) (A : Atoms 𝓤) → Given 𝓤 H A → (mem : Memory → SProp 𝓤) (run : Routine → Fun 𝓤) (𝓣 : Tables 𝓤 H) → Triple 𝓤 (𝓣 .C #headend-limits·search·out-of-limits) (OutOfLimitsᶜ 𝓤 H A mem run) → Triple 𝓤 (𝓣 .C #records·first) (Firstᶜ 𝓤 H A mem run) → Triple 𝓤 (𝓣 .C #headend-steps·receive·read-request) (ReadRequestᶜ 𝓤 H A mem run) → Triple 𝓤 (𝓣 .C #headend-limits·search·of-request) (OfRequestᶜ 𝓤 H A mem run) → Triple 𝓤 (𝓣 .C #records·lookup) (Lookupᶜ 𝓤 H A mem run) → Triple 𝓤 (𝓣 .C #headend-steps·receive·receive-called) (ReceiveCalledᶜ 𝓤 H A mem run)
     → Meets 𝓤 H A receive₀.signature (WpFn 𝓤 H (𝓣 .C) (𝓣 .Λ) code.function) (receive₀.spec 𝓤 H A mem run)
 receive-meets 𝓤 H A W mem run 𝓣 known-out-of-limits known-first known-read-request known-of-request known-lookup known-receive-called =
     walk-meets 𝓤 H A receive₀.ended stayed W (goes-none 𝓤 H A W 4 (λ _. HeadEnd₁.the-row) yes (λ κs x f. refl), (goes-none-slice 𝓤 H A W 4 (0 ∷ []) tt (plain (λ _. Assoc₁.the-row)) yes, (goes-none 𝓤 H A W 4 (λ _. u64) yes (λ κs x f. refl), (goes-none 𝓤 H A W 4 (λ _. bool) yes (λ κs x f. refl), (goes-none-slice 𝓤 H A W 4 (1 ∷ []) tt (plain (λ _. u8)) yes, (goes-none-slice 𝓤 H A W 4 (2 ∷ []) tt (plain (λ _. u8)) yes, (goes-gave-slice 𝓤 H A W 4 3 tt (plain (λ _. u8)), tt))))))) (receive₀.clauses 𝓤 H A mem run)
@@ -458,9 +458,9 @@ receive-spec 𝓤 H 𝓜 𝓖 𝓡 =
     entered 𝓤 H (tripleOf 𝓤 H (𝓖 .A) receive₀.signature (receive₀.spec 𝓤 H (𝓖 .A) (𝓜 .mem) (𝓡 .run)))
     (tables 𝓤 H 𝓜 𝓡 code.env .C) (tables 𝓤 H 𝓜 𝓡 code.env .Λ) #here code.function (code.unfolded 𝓤 H 𝓜 𝓡)
     (receive-meets 𝓤 H (𝓖 .A) (givenOf 𝓤 H 𝓜 𝓖) (𝓜 .mem) (𝓡 .run) (tablesOf 𝓤 H 𝓜 (tables 𝓤 H 𝓜 𝓡 code.env))
-    (cited 𝓤 H (OutOfLimitsᶜ 𝓤 H (𝓖 .A) (𝓜 .mem) (𝓡 .run)) 𝓜 𝓡 code.env #headend-steps·search·out-of-limits out-of-limits-def.routine code.calls-headend-steps·search·out-of-limits (out-of-limits-thm.met 𝓤 H 𝓜 𝓖 𝓡))
+    (cited 𝓤 H (OutOfLimitsᶜ 𝓤 H (𝓖 .A) (𝓜 .mem) (𝓡 .run)) 𝓜 𝓡 code.env #headend-limits·search·out-of-limits out-of-limits-def.routine code.calls-headend-limits·search·out-of-limits (out-of-limits-thm.met 𝓤 H 𝓜 𝓖 𝓡))
     (cited 𝓤 H (Firstᶜ 𝓤 H (𝓖 .A) (𝓜 .mem) (𝓡 .run)) 𝓜 𝓡 code.env #records·first first-def.routine code.calls-records·first (first-thm.met 𝓤 H 𝓜 𝓖 𝓡))
     (cited 𝓤 H (ReadRequestᶜ 𝓤 H (𝓖 .A) (𝓜 .mem) (𝓡 .run)) 𝓜 𝓡 code.env #headend-steps·receive·read-request read-request-def.routine code.calls-headend-steps·receive·read-request (read-request-thm.met 𝓤 H 𝓜 𝓖 𝓡))
-    (cited 𝓤 H (OfRequestᶜ 𝓤 H (𝓖 .A) (𝓜 .mem) (𝓡 .run)) 𝓜 𝓡 code.env #headend-steps·search·of-request of-request-def.routine code.calls-headend-steps·search·of-request (of-request-thm.met 𝓤 H 𝓜 𝓖 𝓡))
+    (cited 𝓤 H (OfRequestᶜ 𝓤 H (𝓖 .A) (𝓜 .mem) (𝓡 .run)) 𝓜 𝓡 code.env #headend-limits·search·of-request of-request-def.routine code.calls-headend-limits·search·of-request (of-request-thm.met 𝓤 H 𝓜 𝓖 𝓡))
     (cited 𝓤 H (Lookupᶜ 𝓤 H (𝓖 .A) (𝓜 .mem) (𝓡 .run)) 𝓜 𝓡 code.env #records·lookup lookup-def.routine code.calls-records·lookup (lookup-thm.met 𝓤 H 𝓜 𝓖 𝓡))
     (cited 𝓤 H (ReceiveCalledᶜ 𝓤 H (𝓖 .A) (𝓜 .mem) (𝓡 .run)) 𝓜 𝓡 code.env #headend-steps·receive·receive-called receive-called-def.routine code.calls-headend-steps·receive·receive-called (receive-called-thm.met 𝓤 H 𝓜 𝓖 𝓡)))

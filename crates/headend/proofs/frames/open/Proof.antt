@@ -39,12 +39,12 @@ use denote.Triple.Spec.{Meets, tripleOf}
 use denote.Triple.Table.{entered, cited}
 use denote.Triple.Walked.{says, Stays, stay-none-slice, stay-none, gave-slice, walkOf, goes-none-slice, goes-none, goes-gave-slice, Walks, ends-at, walked, walk-meets}
 use denote.Exit.{yes}
-use Rattle.headend_steps.specs.declared.frames.OpenedCall.{OpenedCall}
-use Rattle.headend_steps.proofs.frames.OpenedCall as OpenedCall₁
-use Rattle.headend_steps.proofs.frames.OpenedCall.Laws as OpenedCall₁′
-use Rattle.headend_steps.specs.declared.state.HeadEnd.{HeadEnd}
-use Rattle.headend_steps.proofs.state.HeadEnd as HeadEnd₁
-use Rattle.headend_steps.proofs.state.HeadEnd.Laws as HeadEnd₁′
+use Rattle.headend_frames.specs.declared.frames.OpenedCall.{OpenedCall}
+use Rattle.headend_frames.proofs.frames.OpenedCall as OpenedCall₁
+use Rattle.headend_frames.proofs.frames.OpenedCall.Laws as OpenedCall₁′
+use Rattle.headend_state.specs.declared.state.HeadEnd.{HeadEnd}
+use Rattle.headend_state.proofs.state.HeadEnd as HeadEnd₁
+use Rattle.headend_state.proofs.state.HeadEnd.Laws as HeadEnd₁′
 use Rattle.association.specs.declared.record.Assoc.{Assoc}
 use Rattle.association.proofs.record.Assoc as Assoc₁
 use Rattle.keys.specs.declared.numbers.TekNumber.{TekNumber}
@@ -56,32 +56,32 @@ use Rattle.association.proofs.search.Found.Laws as Found₁′
 use Rattle.association.specs.declared.search.Probe.{Probe}
 use Rattle.association.proofs.search.Probe as Probe₁
 use Rattle.association.proofs.search.Probe.Laws as Probe₁′
-use Rattle.headend_steps.proofs.search.out_of_limits as out-of-limits′
-use Rattle.headend_steps.proofs.search.out_of_limits.Symbol as out-of-limits-def
-use Rattle.headend_steps.proofs.search.out_of_limits.Symbol.{name as #headend-steps·search·out-of-limits}
-use Rattle.headend_steps.proofs.search.out_of_limits.Met as out-of-limits-thm
+use Rattle.headend_limits.proofs.search.out_of_limits as out-of-limits′
+use Rattle.headend_limits.proofs.search.out_of_limits.Symbol as out-of-limits-def
+use Rattle.headend_limits.proofs.search.out_of_limits.Symbol.{name as #headend-limits·search·out-of-limits}
+use Rattle.headend_limits.proofs.search.out_of_limits.Met as out-of-limits-thm
 use Rattle.records.proofs.first as first′
 use Rattle.records.proofs.first.Symbol as first-def
 use Rattle.records.proofs.first.Symbol.{name as #records·first}
 use Rattle.records.proofs.first.Met as first-thm
-use Rattle.headend_steps.proofs.search.of_said as of-said′
-use Rattle.headend_steps.proofs.search.of_said.Symbol as of-said-def
-use Rattle.headend_steps.proofs.search.of_said.Symbol.{name as #headend-steps·search·of-said}
-use Rattle.headend_steps.proofs.search.of_said.Met as of-said-thm
+use Rattle.headend_limits.proofs.search.of_said as of-said′
+use Rattle.headend_limits.proofs.search.of_said.Symbol as of-said-def
+use Rattle.headend_limits.proofs.search.of_said.Symbol.{name as #headend-limits·search·of-said}
+use Rattle.headend_limits.proofs.search.of_said.Met as of-said-thm
 use Rattle.records.proofs.lookup as lookup′
 use Rattle.records.proofs.lookup.Symbol as lookup-def
 use Rattle.records.proofs.lookup.Symbol.{name as #records·lookup}
 use Rattle.records.proofs.lookup.Met as lookup-thm
-use Rattle.headend_steps.proofs.frames.open_called as open-called′
-use Rattle.headend_steps.proofs.frames.open_called.Symbol as open-called-def
-use Rattle.headend_steps.proofs.frames.open_called.Symbol.{name as #headend-steps·frames·open-called}
-use Rattle.headend_steps.proofs.frames.open_called.Met as open-called-thm
+use Rattle.headend_frames.proofs.frames.open_called as open-called′
+use Rattle.headend_frames.proofs.frames.open_called.Symbol as open-called-def
+use Rattle.headend_frames.proofs.frames.open_called.Symbol.{name as #headend-frames·frames·open-called}
+use Rattle.headend_frames.proofs.frames.open_called.Met as open-called-thm
 use Rattle.keys.specs.Octets.{overlay}
 use Rattle.association.specs.declared.search.Probe.the-variants.{OfSaid}
 use Rattle.records.specs.Records.{firstOf, lookupOf}
-use Rattle.headend_steps.specs.Search.{outOfLimits}
-use Rattle.headend_steps.specs.Frames.{openedWith}
-use Rattle.headend_steps.specs.FrameCalled.{openCalled}
+use Rattle.headend_limits.specs.Search.{outOfLimits}
+use Rattle.headend_frames.specs.Frames.{openedWith}
+use Rattle.headend_frames.specs.FrameCalled.{openCalled}
 use Rattle.headend.proofs.frames.open.Key.{name as #here}
 use Rattle.headend.proofs.frames.open as open₀
 use Rattle.headend.proofs.frames.open.Statement as stated
@@ -235,7 +235,7 @@ module _ {M : Type 1} (𝓤 : URA M) (H : Heap 𝓤) (A : Atoms 𝓤) (W : Given
     abbrev Given-back : OpenedCall → List ℕ → List ℕ → List ℕ → Type 0
     Given-back r zs-tek zs-vector zs-invalid = (r ≡ openCalled (openedWith h bad (length (records .now)) found direction address said number (length (tek .now)) (length (vector .now)) (length (invalid .now)))) × (zs-tek ≡ overlay (tek .now) (openedWith h bad (length (records .now)) found direction address said number (length (tek .now)) (length (vector .now)) (length (invalid .now)) .out .tek)) × (zs-vector ≡ overlay (vector .now) (openedWith h bad (length (records .now)) found direction address said number (length (tek .now)) (length (vector .now)) (length (invalid .now)) .out .vector)) × (zs-invalid ≡ overlay (invalid .now) (openedWith h bad (length (records .now)) found direction address said number (length (tek .now)) (length (vector .now)) (length (invalid .now)) .invalid))
 
-  module _ (C : Calls 𝓤 H) (Λ : Loops 𝓤 H) (fm : FmC 𝓤 H (W .laws) C) (known-out-of-limits : Triple 𝓤 (C #headend-steps·search·out-of-limits) (OutOfLimitsᶜ 𝓤 H A mem run)) (known-first : Triple 𝓤 (C #records·first) (Firstᶜ 𝓤 H A mem run)) (known-of-said : Triple 𝓤 (C #headend-steps·search·of-said) (OfSaidᶜ 𝓤 H A mem run)) (known-lookup : Triple 𝓤 (C #records·lookup) (Lookupᶜ 𝓤 H A mem run)) (known-open-called : Triple 𝓤 (C #headend-steps·frames·open-called) (OpenCalledᶜ 𝓤 H A mem run)) (l₀ l₁ l₂ l₃ l₄ l₅ l₆ l₇ l₈ l₉ l₁₀ l₁₁ l₁₂ l₁₃ l₁₄ l₁₅ l₁₆ l₁₇ l₁₈ l₁₉ : ℕ) where
+  module _ (C : Calls 𝓤 H) (Λ : Loops 𝓤 H) (fm : FmC 𝓤 H (W .laws) C) (known-out-of-limits : Triple 𝓤 (C #headend-limits·search·out-of-limits) (OutOfLimitsᶜ 𝓤 H A mem run)) (known-first : Triple 𝓤 (C #records·first) (Firstᶜ 𝓤 H A mem run)) (known-of-said : Triple 𝓤 (C #headend-limits·search·of-said) (OfSaidᶜ 𝓤 H A mem run)) (known-lookup : Triple 𝓤 (C #records·lookup) (Lookupᶜ 𝓤 H A mem run)) (known-open-called : Triple 𝓤 (C #headend-frames·frames·open-called) (OpenCalledᶜ 𝓤 H A mem run)) (l₀ l₁ l₂ l₃ l₄ l₅ l₆ l₇ l₈ l₉ l₁₀ l₁₁ l₁₂ l₁₃ l₁₄ l₁₅ l₁₆ l₁₇ l₁₈ l₁₉ : ℕ) where
     abbrev En : Env 𝓤 H
     En = (OpenedCall₁′.mir, l₀) ∷ (HeadEnd₁′.mir, l₁) ∷ ((sliceTy (tyRef (named 0) imm (pointee (Assoc₁.the-row .written)))), l₂) ∷ ((tyInt w8), l₃) ∷ ((tyInt w64), l₄) ∷ ((tyInt w16), l₅) ∷ (TekNumber₁′.mir, l₆) ∷ ((sliceTy (tyRef (named 1) mut (tyInt w8))), l₇) ∷ ((sliceTy (tyRef (named 2) mut (tyInt w8))), l₈) ∷ ((sliceTy (tyRef (named 3) mut (tyInt w8))), l₉) ∷ ((tyInt w64), l₁₀) ∷ (Found₁′.mir, l₁₁) ∷ (Probe₁′.mir, l₁₂) ∷ ((tyInt w64), l₁₃) ∷ ((tyRef erased mut (tyInt w8)), l₁₄) ∷ ((sliceTy (tyRef erased mut (tyInt w8))), l₁₅) ∷ ((tyRef erased mut (tyInt w8)), l₁₆) ∷ ((sliceTy (tyRef erased mut (tyInt w8))), l₁₇) ∷ ((tyRef erased mut (tyInt w8)), l₁₈) ∷ ((sliceTy (tyRef erased mut (tyInt w8))), l₁₉) ∷ []
 
@@ -414,7 +414,7 @@ module _ {M : Type 1} (𝓤 : URA M) (H : Heap 𝓤) (A : Atoms 𝓤) (W : Given
         land ! (from ! (stop !)) (init ! 22 refl (EL.lawful Probe₁.the-type Probe₁′.the-laws 𝓤 H A W tt .typed sick _ sick-is .0)) $
         stage-2 sick sick-u sick-is (sick-said)))))
 
-  module _ (C : Calls 𝓤 H) (Λ : Loops 𝓤 H) (fm : FmC 𝓤 H (W .laws) C) (known-out-of-limits : Triple 𝓤 (C #headend-steps·search·out-of-limits) (OutOfLimitsᶜ 𝓤 H A mem run)) (known-first : Triple 𝓤 (C #records·first) (Firstᶜ 𝓤 H A mem run)) (known-of-said : Triple 𝓤 (C #headend-steps·search·of-said) (OfSaidᶜ 𝓤 H A mem run)) (known-lookup : Triple 𝓤 (C #records·lookup) (Lookupᶜ 𝓤 H A mem run)) (known-open-called : Triple 𝓤 (C #headend-steps·frames·open-called) (OpenCalledᶜ 𝓤 H A mem run)) where
+  module _ (C : Calls 𝓤 H) (Λ : Loops 𝓤 H) (fm : FmC 𝓤 H (W .laws) C) (known-out-of-limits : Triple 𝓤 (C #headend-limits·search·out-of-limits) (OutOfLimitsᶜ 𝓤 H A mem run)) (known-first : Triple 𝓤 (C #records·first) (Firstᶜ 𝓤 H A mem run)) (known-of-said : Triple 𝓤 (C #headend-limits·search·of-said) (OfSaidᶜ 𝓤 H A mem run)) (known-lookup : Triple 𝓤 (C #records·lookup) (Lookupᶜ 𝓤 H A mem run)) (known-open-called : Triple 𝓤 (C #headend-frames·frames·open-called) (OpenCalledᶜ 𝓤 H A mem run)) where
     walk : ent 𝓤 (onEntry 𝓤 H A open₀.signature (κ, (μ, (κ₃, (κ₄, tt)))) (q, (p, (q₃, (q₄, tt)))) a vals) (WpFn 𝓤 H C Λ code.function ((LL.val HeadEnd₁.the-type HeadEnd₁′.the-laws h) ∷ records-val ∷ (vint w8 direction) ∷ (vint w64 address) ∷ (vint w16 said) ∷ (LL.val TekNumber₁.the-type TekNumber₁′.the-laws number) ∷ tek-val ∷ vector-val ∷ invalid-val ∷ []) Post)
     walk =
         qed W ((‵ (flft κ q) ⊛ (‵ (flft μ p) ⊛ (‵ (flft κ₃ q₃) ⊛ (‵ (flft κ₄ q₄) ⊛ ‵ ftrue)))) ∷ ‵ (owns (HeadEnd₁.the-row ∷ ShrSlice (named 0) κ Assoc₁.the-row ∷ u8 ∷ u64 ∷ u16 ∷ TekNumber₁.the-row ∷ MutSlice (named 1) μ u8 ∷ MutSlice (named 2) κ₃ u8 ∷ MutSlice (named 3) κ₄ u8 ∷ []) a vals) ∷ []) ∵ enter ! C Λ code.function ((LL.val HeadEnd₁.the-type HeadEnd₁′.the-laws h) ∷ records-val ∷ (vint w8 direction) ∷ (vint w64 address) ∷ (vint w16 said) ∷ (LL.val TekNumber₁.the-type TekNumber₁′.the-laws number) ∷ tek-val ∷ vector-val ∷ invalid-val ∷ []) _ $
@@ -425,13 +425,13 @@ module _ {M : Type 1} (𝓤 : URA M) (H : Heap 𝓤) (A : Atoms 𝓤) (W : Given
         stage-1 C Λ fm known-out-of-limits known-first known-of-said known-lookup known-open-called l₀ l₁ l₂ l₃ l₄ l₅ l₆ l₇ l₈ l₉ l₁₀ l₁₁ l₁₂ l₁₃ l₁₄ l₁₅ l₁₆ l₁₇ l₁₈ l₁₉))))))))))))))))))))
 
 module _ {M : Type 1} (𝓤 : URA M) (H : Heap 𝓤) (A : Atoms 𝓤) (W : Given 𝓤 H A) (mem : Memory → SProp 𝓤) (run : Routine → Fun 𝓤) where
-  open-walks : (C : Calls 𝓤 H) (Λ : Loops 𝓤 H) → FmC 𝓤 H (W .laws) C → Triple 𝓤 (C #headend-steps·search·out-of-limits) (OutOfLimitsᶜ 𝓤 H A mem run) → Triple 𝓤 (C #records·first) (Firstᶜ 𝓤 H A mem run) → Triple 𝓤 (C #headend-steps·search·of-said) (OfSaidᶜ 𝓤 H A mem run) → Triple 𝓤 (C #records·lookup) (Lookupᶜ 𝓤 H A mem run) → Triple 𝓤 (C #headend-steps·frames·open-called) (OpenCalledᶜ 𝓤 H A mem run) → Walks 𝓤 H A open₀.ended stayed (WpFn 𝓤 H C Λ code.function) (open₀.clauses 𝓤 H A mem run)
+  open-walks : (C : Calls 𝓤 H) (Λ : Loops 𝓤 H) → FmC 𝓤 H (W .laws) C → Triple 𝓤 (C #headend-limits·search·out-of-limits) (OutOfLimitsᶜ 𝓤 H A mem run) → Triple 𝓤 (C #records·first) (Firstᶜ 𝓤 H A mem run) → Triple 𝓤 (C #headend-limits·search·of-said) (OfSaidᶜ 𝓤 H A mem run) → Triple 𝓤 (C #records·lookup) (Lookupᶜ 𝓤 H A mem run) → Triple 𝓤 (C #headend-frames·frames·open-called) (OpenCalledᶜ 𝓤 H A mem run) → Walks 𝓤 H A open₀.ended stayed (WpFn 𝓤 H C Λ code.function) (open₀.clauses 𝓤 H A mem run)
   open-walks C Λ fm known-out-of-limits known-first known-of-said known-lookup known-open-called = walked 𝓤 H A open₀.ended stayed (open₀.clauses 𝓤 H A mem run) (WpFn 𝓤 H C Λ code.function)
       (λ κs. (LL.vals HeadEnd₁.the-type HeadEnd₁′.the-laws, (slice-vals, (uint-vals w8, (uint-vals w64, (uint-vals w16, (LL.vals TekNumber₁.the-type TekNumber₁′.the-laws, (slice-vals, (slice-vals, (slice-vals, tt)))))))))) (λ κs. (LL.tells HeadEnd₁.the-type HeadEnd₁′.the-laws, (shr-slice-tells (named 0) (κs .0) Assoc₁.the-row, (uint-tells w8, (uint-tells w64, (uint-tells w16, (LL.tells TekNumber₁.the-type TekNumber₁′.the-laws, (mut-slice-tells (named 1) (κs .1 .0) u8, (mut-slice-tells (named 2) (κs .1 .1 .0) u8, (mut-slice-tells (named 3) (κs .1 .1 .1 .0) u8, tt))))))))))
       (λ κs qs bounds a g are. via 𝓤 _ (fst∗ 𝓤 _ (emp 𝓤))
       (walk 𝓤 H A W mem run (κs .0) (κs .1 .0) (κs .1 .1 .0) (κs .1 .1 .1 .0) (qs .0) (qs .1 .0) (qs .1 .1 .0) (qs .1 .1 .1 .0) (a .0) (a .1 .0) (a .1 .1 .0) (a .1 .1 .1 .0) (a .1 .1 .1 .1 .0) (a .1 .1 .1 .1 .1 .0) (a .1 .1 .1 .1 .1 .1 .0) (a .1 .1 .1 .1 .1 .1 .1 .0) (a .1 .1 .1 .1 .1 .1 .1 .1 .0) (are .0) (are .1 .0 .0 .1) (are .1 .1 .0 .1) (are .1 .1 .1 .0 .1) (are .1 .1 .1 .1 .0 .1) (are .1 .1 .1 .1 .1 .0) (are .1 .1 .1 .1 .1 .1 .0 .0 .1) (are .1 .1 .1 .1 .1 .1 .1 .0 .0 .1) (are .1 .1 .1 .1 .1 .1 .1 .1 .0 .0 .1) C Λ fm known-out-of-limits known-first known-of-said known-lookup known-open-called))
 
-open-meets : {M : Type 1} (𝓤 : URA M) (H : Heap 𝓤) (A : Atoms 𝓤) → Given 𝓤 H A → (mem : Memory → SProp 𝓤) (run : Routine → Fun 𝓤) (𝓣 : Tables 𝓤 H) → Triple 𝓤 (𝓣 .C #headend-steps·search·out-of-limits) (OutOfLimitsᶜ 𝓤 H A mem run) → Triple 𝓤 (𝓣 .C #records·first) (Firstᶜ 𝓤 H A mem run) → Triple 𝓤 (𝓣 .C #headend-steps·search·of-said) (OfSaidᶜ 𝓤 H A mem run) → Triple 𝓤 (𝓣 .C #records·lookup) (Lookupᶜ 𝓤 H A mem run) → Triple 𝓤 (𝓣 .C #headend-steps·frames·open-called) (OpenCalledᶜ 𝓤 H A mem run)
+open-meets : {M : Type 1} (𝓤 : URA M) (H : Heap 𝓤) (A : Atoms 𝓤) → Given 𝓤 H A → (mem : Memory → SProp 𝓤) (run : Routine → Fun 𝓤) (𝓣 : Tables 𝓤 H) → Triple 𝓤 (𝓣 .C #headend-limits·search·out-of-limits) (OutOfLimitsᶜ 𝓤 H A mem run) → Triple 𝓤 (𝓣 .C #records·first) (Firstᶜ 𝓤 H A mem run) → Triple 𝓤 (𝓣 .C #headend-limits·search·of-said) (OfSaidᶜ 𝓤 H A mem run) → Triple 𝓤 (𝓣 .C #records·lookup) (Lookupᶜ 𝓤 H A mem run) → Triple 𝓤 (𝓣 .C #headend-frames·frames·open-called) (OpenCalledᶜ 𝓤 H A mem run)
     → Meets 𝓤 H A open₀.signature (WpFn 𝓤 H (𝓣 .C) (𝓣 .Λ) code.function) (open₀.spec 𝓤 H A mem run)
 open-meets 𝓤 H A W mem run 𝓣 known-out-of-limits known-first known-of-said known-lookup known-open-called =
     walk-meets 𝓤 H A open₀.ended stayed W (goes-none 𝓤 H A W 4 (λ _. HeadEnd₁.the-row) yes (λ κs x f. refl), (goes-none-slice 𝓤 H A W 4 (0 ∷ []) tt (plain (λ _. Assoc₁.the-row)) yes, (goes-none 𝓤 H A W 4 (λ _. u8) yes (λ κs x f. refl), (goes-none 𝓤 H A W 4 (λ _. u64) yes (λ κs x f. refl), (goes-none 𝓤 H A W 4 (λ _. u16) yes (λ κs x f. refl), (goes-none 𝓤 H A W 4 (λ _. TekNumber₁.the-row) yes (λ κs x f. refl), (goes-gave-slice 𝓤 H A W 4 1 tt (plain (λ _. u8)), (goes-gave-slice 𝓤 H A W 4 2 tt (plain (λ _. u8)), (goes-gave-slice 𝓤 H A W 4 3 tt (plain (λ _. u8)), tt))))))))) (open₀.clauses 𝓤 H A mem run)
@@ -443,8 +443,8 @@ open-spec 𝓤 H 𝓜 𝓖 𝓡 =
     entered 𝓤 H (tripleOf 𝓤 H (𝓖 .A) open₀.signature (open₀.spec 𝓤 H (𝓖 .A) (𝓜 .mem) (𝓡 .run)))
     (tables 𝓤 H 𝓜 𝓡 code.env .C) (tables 𝓤 H 𝓜 𝓡 code.env .Λ) #here code.function (code.unfolded 𝓤 H 𝓜 𝓡)
     (open-meets 𝓤 H (𝓖 .A) (givenOf 𝓤 H 𝓜 𝓖) (𝓜 .mem) (𝓡 .run) (tablesOf 𝓤 H 𝓜 (tables 𝓤 H 𝓜 𝓡 code.env))
-    (cited 𝓤 H (OutOfLimitsᶜ 𝓤 H (𝓖 .A) (𝓜 .mem) (𝓡 .run)) 𝓜 𝓡 code.env #headend-steps·search·out-of-limits out-of-limits-def.routine code.calls-headend-steps·search·out-of-limits (out-of-limits-thm.met 𝓤 H 𝓜 𝓖 𝓡))
+    (cited 𝓤 H (OutOfLimitsᶜ 𝓤 H (𝓖 .A) (𝓜 .mem) (𝓡 .run)) 𝓜 𝓡 code.env #headend-limits·search·out-of-limits out-of-limits-def.routine code.calls-headend-limits·search·out-of-limits (out-of-limits-thm.met 𝓤 H 𝓜 𝓖 𝓡))
     (cited 𝓤 H (Firstᶜ 𝓤 H (𝓖 .A) (𝓜 .mem) (𝓡 .run)) 𝓜 𝓡 code.env #records·first first-def.routine code.calls-records·first (first-thm.met 𝓤 H 𝓜 𝓖 𝓡))
-    (cited 𝓤 H (OfSaidᶜ 𝓤 H (𝓖 .A) (𝓜 .mem) (𝓡 .run)) 𝓜 𝓡 code.env #headend-steps·search·of-said of-said-def.routine code.calls-headend-steps·search·of-said (of-said-thm.met 𝓤 H 𝓜 𝓖 𝓡))
+    (cited 𝓤 H (OfSaidᶜ 𝓤 H (𝓖 .A) (𝓜 .mem) (𝓡 .run)) 𝓜 𝓡 code.env #headend-limits·search·of-said of-said-def.routine code.calls-headend-limits·search·of-said (of-said-thm.met 𝓤 H 𝓜 𝓖 𝓡))
     (cited 𝓤 H (Lookupᶜ 𝓤 H (𝓖 .A) (𝓜 .mem) (𝓡 .run)) 𝓜 𝓡 code.env #records·lookup lookup-def.routine code.calls-records·lookup (lookup-thm.met 𝓤 H 𝓜 𝓖 𝓡))
-    (cited 𝓤 H (OpenCalledᶜ 𝓤 H (𝓖 .A) (𝓜 .mem) (𝓡 .run)) 𝓜 𝓡 code.env #headend-steps·frames·open-called open-called-def.routine code.calls-headend-steps·frames·open-called (open-called-thm.met 𝓤 H 𝓜 𝓖 𝓡)))
+    (cited 𝓤 H (OpenCalledᶜ 𝓤 H (𝓖 .A) (𝓜 .mem) (𝓡 .run)) 𝓜 𝓡 code.env #headend-frames·frames·open-called open-called-def.routine code.calls-headend-frames·frames·open-called (open-called-thm.met 𝓤 H 𝓜 𝓖 𝓡)))

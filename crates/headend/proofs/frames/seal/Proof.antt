@@ -42,9 +42,9 @@ use denote.Exit.{yes}
 use Rattle.keys.specs.declared.sealing.SealedCall.{SealedCall}
 use Rattle.keys.proofs.sealing.SealedCall as SealedCall₁
 use Rattle.keys.proofs.sealing.SealedCall.Laws as SealedCall₁′
-use Rattle.headend_steps.specs.declared.state.HeadEnd.{HeadEnd}
-use Rattle.headend_steps.proofs.state.HeadEnd as HeadEnd₁
-use Rattle.headend_steps.proofs.state.HeadEnd.Laws as HeadEnd₁′
+use Rattle.headend_state.specs.declared.state.HeadEnd.{HeadEnd}
+use Rattle.headend_state.proofs.state.HeadEnd as HeadEnd₁
+use Rattle.headend_state.proofs.state.HeadEnd.Laws as HeadEnd₁′
 use Rattle.association.specs.declared.record.Assoc.{Assoc}
 use Rattle.association.proofs.record.Assoc as Assoc₁
 use Rattle.association.specs.declared.search.Found.{Found}
@@ -53,31 +53,31 @@ use Rattle.association.proofs.search.Found.Laws as Found₁′
 use Rattle.association.specs.declared.search.Probe.{Probe}
 use Rattle.association.proofs.search.Probe as Probe₁
 use Rattle.association.proofs.search.Probe.Laws as Probe₁′
-use Rattle.headend_steps.proofs.search.out_of_limits as out-of-limits′
-use Rattle.headend_steps.proofs.search.out_of_limits.Symbol as out-of-limits-def
-use Rattle.headend_steps.proofs.search.out_of_limits.Symbol.{name as #headend-steps·search·out-of-limits}
-use Rattle.headend_steps.proofs.search.out_of_limits.Met as out-of-limits-thm
+use Rattle.headend_limits.proofs.search.out_of_limits as out-of-limits′
+use Rattle.headend_limits.proofs.search.out_of_limits.Symbol as out-of-limits-def
+use Rattle.headend_limits.proofs.search.out_of_limits.Symbol.{name as #headend-limits·search·out-of-limits}
+use Rattle.headend_limits.proofs.search.out_of_limits.Met as out-of-limits-thm
 use Rattle.records.proofs.first as first′
 use Rattle.records.proofs.first.Symbol as first-def
 use Rattle.records.proofs.first.Symbol.{name as #records·first}
 use Rattle.records.proofs.first.Met as first-thm
-use Rattle.headend_steps.proofs.search.of_said as of-said′
-use Rattle.headend_steps.proofs.search.of_said.Symbol as of-said-def
-use Rattle.headend_steps.proofs.search.of_said.Symbol.{name as #headend-steps·search·of-said}
-use Rattle.headend_steps.proofs.search.of_said.Met as of-said-thm
+use Rattle.headend_limits.proofs.search.of_said as of-said′
+use Rattle.headend_limits.proofs.search.of_said.Symbol as of-said-def
+use Rattle.headend_limits.proofs.search.of_said.Symbol.{name as #headend-limits·search·of-said}
+use Rattle.headend_limits.proofs.search.of_said.Met as of-said-thm
 use Rattle.records.proofs.lookup as lookup′
 use Rattle.records.proofs.lookup.Symbol as lookup-def
 use Rattle.records.proofs.lookup.Symbol.{name as #records·lookup}
 use Rattle.records.proofs.lookup.Met as lookup-thm
-use Rattle.headend_steps.proofs.frames.seal_called as seal-called′
-use Rattle.headend_steps.proofs.frames.seal_called.Symbol as seal-called-def
-use Rattle.headend_steps.proofs.frames.seal_called.Symbol.{name as #headend-steps·frames·seal-called}
-use Rattle.headend_steps.proofs.frames.seal_called.Met as seal-called-thm
+use Rattle.headend_frames.proofs.frames.seal_called as seal-called′
+use Rattle.headend_frames.proofs.frames.seal_called.Symbol as seal-called-def
+use Rattle.headend_frames.proofs.frames.seal_called.Symbol.{name as #headend-frames·frames·seal-called}
+use Rattle.headend_frames.proofs.frames.seal_called.Met as seal-called-thm
 use Rattle.keys.specs.Octets.{overlay}
 use Rattle.association.specs.declared.search.Probe.the-variants.{OfSaid}
 use Rattle.records.specs.Records.{firstOf, lookupOf}
-use Rattle.headend_steps.specs.Search.{outOfLimits}
-use Rattle.headend_steps.specs.Frames.{sealedWith}
+use Rattle.headend_limits.specs.Search.{outOfLimits}
+use Rattle.headend_frames.specs.Frames.{sealedWith}
 use Rattle.keys.specs.Sealing.{sealCalled}
 use Rattle.headend.proofs.frames.seal.Key.{name as #here}
 use Rattle.headend.proofs.frames.seal as seal₀
@@ -226,7 +226,7 @@ module _ {M : Type 1} (𝓤 : URA M) (H : Heap 𝓤) (A : Atoms 𝓤) (W : Given
     abbrev Given-back : SealedCall → List ℕ → List ℕ → Type 0
     Given-back r zs-tek zs-vector = (r ≡ sealCalled (sealedWith h bad (length (records .now)) found address said (length (tek .now)) (length (vector .now)))) × (zs-tek ≡ overlay (tek .now) (sealedWith h bad (length (records .now)) found address said (length (tek .now)) (length (vector .now)) .out .tek)) × (zs-vector ≡ overlay (vector .now) (sealedWith h bad (length (records .now)) found address said (length (tek .now)) (length (vector .now)) .out .vector))
 
-  module _ (C : Calls 𝓤 H) (Λ : Loops 𝓤 H) (fm : FmC 𝓤 H (W .laws) C) (known-out-of-limits : Triple 𝓤 (C #headend-steps·search·out-of-limits) (OutOfLimitsᶜ 𝓤 H A mem run)) (known-first : Triple 𝓤 (C #records·first) (Firstᶜ 𝓤 H A mem run)) (known-of-said : Triple 𝓤 (C #headend-steps·search·of-said) (OfSaidᶜ 𝓤 H A mem run)) (known-lookup : Triple 𝓤 (C #records·lookup) (Lookupᶜ 𝓤 H A mem run)) (known-seal-called : Triple 𝓤 (C #headend-steps·frames·seal-called) (SealCalledᶜ 𝓤 H A mem run)) (l₀ l₁ l₂ l₃ l₄ l₅ l₆ l₇ l₈ l₉ l₁₀ l₁₁ l₁₂ l₁₃ l₁₄ : ℕ) where
+  module _ (C : Calls 𝓤 H) (Λ : Loops 𝓤 H) (fm : FmC 𝓤 H (W .laws) C) (known-out-of-limits : Triple 𝓤 (C #headend-limits·search·out-of-limits) (OutOfLimitsᶜ 𝓤 H A mem run)) (known-first : Triple 𝓤 (C #records·first) (Firstᶜ 𝓤 H A mem run)) (known-of-said : Triple 𝓤 (C #headend-limits·search·of-said) (OfSaidᶜ 𝓤 H A mem run)) (known-lookup : Triple 𝓤 (C #records·lookup) (Lookupᶜ 𝓤 H A mem run)) (known-seal-called : Triple 𝓤 (C #headend-frames·frames·seal-called) (SealCalledᶜ 𝓤 H A mem run)) (l₀ l₁ l₂ l₃ l₄ l₅ l₆ l₇ l₈ l₉ l₁₀ l₁₁ l₁₂ l₁₃ l₁₄ : ℕ) where
     abbrev En : Env 𝓤 H
     En = (SealedCall₁′.mir, l₀) ∷ (HeadEnd₁′.mir, l₁) ∷ ((sliceTy (tyRef (named 0) imm (pointee (Assoc₁.the-row .written)))), l₂) ∷ ((tyInt w64), l₃) ∷ ((tyInt w16), l₄) ∷ ((sliceTy (tyRef (named 1) mut (tyInt w8))), l₅) ∷ ((sliceTy (tyRef (named 2) mut (tyInt w8))), l₆) ∷ ((tyInt w64), l₇) ∷ (Found₁′.mir, l₈) ∷ (Probe₁′.mir, l₉) ∷ ((tyInt w64), l₁₀) ∷ ((tyRef erased mut (tyInt w8)), l₁₁) ∷ ((sliceTy (tyRef erased mut (tyInt w8))), l₁₂) ∷ ((tyRef erased mut (tyInt w8)), l₁₃) ∷ ((sliceTy (tyRef erased mut (tyInt w8))), l₁₄) ∷ []
 
@@ -375,7 +375,7 @@ module _ {M : Type 1} (𝓤 : URA M) (H : Heap 𝓤) (A : Atoms 𝓤) (W : Given
         land ! (from ! (stop !)) (init ! 16 refl (EL.lawful Probe₁.the-type Probe₁′.the-laws 𝓤 H A W tt .typed sick _ sick-is .0)) $
         stage-2 sick sick-u sick-is (sick-said)))))
 
-  module _ (C : Calls 𝓤 H) (Λ : Loops 𝓤 H) (fm : FmC 𝓤 H (W .laws) C) (known-out-of-limits : Triple 𝓤 (C #headend-steps·search·out-of-limits) (OutOfLimitsᶜ 𝓤 H A mem run)) (known-first : Triple 𝓤 (C #records·first) (Firstᶜ 𝓤 H A mem run)) (known-of-said : Triple 𝓤 (C #headend-steps·search·of-said) (OfSaidᶜ 𝓤 H A mem run)) (known-lookup : Triple 𝓤 (C #records·lookup) (Lookupᶜ 𝓤 H A mem run)) (known-seal-called : Triple 𝓤 (C #headend-steps·frames·seal-called) (SealCalledᶜ 𝓤 H A mem run)) where
+  module _ (C : Calls 𝓤 H) (Λ : Loops 𝓤 H) (fm : FmC 𝓤 H (W .laws) C) (known-out-of-limits : Triple 𝓤 (C #headend-limits·search·out-of-limits) (OutOfLimitsᶜ 𝓤 H A mem run)) (known-first : Triple 𝓤 (C #records·first) (Firstᶜ 𝓤 H A mem run)) (known-of-said : Triple 𝓤 (C #headend-limits·search·of-said) (OfSaidᶜ 𝓤 H A mem run)) (known-lookup : Triple 𝓤 (C #records·lookup) (Lookupᶜ 𝓤 H A mem run)) (known-seal-called : Triple 𝓤 (C #headend-frames·frames·seal-called) (SealCalledᶜ 𝓤 H A mem run)) where
     walk : ent 𝓤 (onEntry 𝓤 H A seal₀.signature (κ, (μ, (κ₃, tt))) (q, (p, (q₃, tt))) a vals) (WpFn 𝓤 H C Λ code.function ((LL.val HeadEnd₁.the-type HeadEnd₁′.the-laws h) ∷ records-val ∷ (vint w64 address) ∷ (vint w16 said) ∷ tek-val ∷ vector-val ∷ []) Post)
     walk =
         qed W ((‵ (flft κ q) ⊛ (‵ (flft μ p) ⊛ (‵ (flft κ₃ q₃) ⊛ ‵ ftrue))) ∷ ‵ (owns (HeadEnd₁.the-row ∷ ShrSlice (named 0) κ Assoc₁.the-row ∷ u64 ∷ u16 ∷ MutSlice (named 1) μ u8 ∷ MutSlice (named 2) κ₃ u8 ∷ []) a vals) ∷ []) ∵ enter ! C Λ code.function ((LL.val HeadEnd₁.the-type HeadEnd₁′.the-laws h) ∷ records-val ∷ (vint w64 address) ∷ (vint w16 said) ∷ tek-val ∷ vector-val ∷ []) _ $
@@ -386,13 +386,13 @@ module _ {M : Type 1} (𝓤 : URA M) (H : Heap 𝓤) (A : Atoms 𝓤) (W : Given
         stage-1 C Λ fm known-out-of-limits known-first known-of-said known-lookup known-seal-called l₀ l₁ l₂ l₃ l₄ l₅ l₆ l₇ l₈ l₉ l₁₀ l₁₁ l₁₂ l₁₃ l₁₄)))))))))))))))
 
 module _ {M : Type 1} (𝓤 : URA M) (H : Heap 𝓤) (A : Atoms 𝓤) (W : Given 𝓤 H A) (mem : Memory → SProp 𝓤) (run : Routine → Fun 𝓤) where
-  seal-walks : (C : Calls 𝓤 H) (Λ : Loops 𝓤 H) → FmC 𝓤 H (W .laws) C → Triple 𝓤 (C #headend-steps·search·out-of-limits) (OutOfLimitsᶜ 𝓤 H A mem run) → Triple 𝓤 (C #records·first) (Firstᶜ 𝓤 H A mem run) → Triple 𝓤 (C #headend-steps·search·of-said) (OfSaidᶜ 𝓤 H A mem run) → Triple 𝓤 (C #records·lookup) (Lookupᶜ 𝓤 H A mem run) → Triple 𝓤 (C #headend-steps·frames·seal-called) (SealCalledᶜ 𝓤 H A mem run) → Walks 𝓤 H A seal₀.ended stayed (WpFn 𝓤 H C Λ code.function) (seal₀.clauses 𝓤 H A mem run)
+  seal-walks : (C : Calls 𝓤 H) (Λ : Loops 𝓤 H) → FmC 𝓤 H (W .laws) C → Triple 𝓤 (C #headend-limits·search·out-of-limits) (OutOfLimitsᶜ 𝓤 H A mem run) → Triple 𝓤 (C #records·first) (Firstᶜ 𝓤 H A mem run) → Triple 𝓤 (C #headend-limits·search·of-said) (OfSaidᶜ 𝓤 H A mem run) → Triple 𝓤 (C #records·lookup) (Lookupᶜ 𝓤 H A mem run) → Triple 𝓤 (C #headend-frames·frames·seal-called) (SealCalledᶜ 𝓤 H A mem run) → Walks 𝓤 H A seal₀.ended stayed (WpFn 𝓤 H C Λ code.function) (seal₀.clauses 𝓤 H A mem run)
   seal-walks C Λ fm known-out-of-limits known-first known-of-said known-lookup known-seal-called = walked 𝓤 H A seal₀.ended stayed (seal₀.clauses 𝓤 H A mem run) (WpFn 𝓤 H C Λ code.function)
       (λ κs. (LL.vals HeadEnd₁.the-type HeadEnd₁′.the-laws, (slice-vals, (uint-vals w64, (uint-vals w16, (slice-vals, (slice-vals, tt))))))) (λ κs. (LL.tells HeadEnd₁.the-type HeadEnd₁′.the-laws, (shr-slice-tells (named 0) (κs .0) Assoc₁.the-row, (uint-tells w64, (uint-tells w16, (mut-slice-tells (named 1) (κs .1 .0) u8, (mut-slice-tells (named 2) (κs .1 .1 .0) u8, tt)))))))
       (λ κs qs bounds a g are. via 𝓤 _ (fst∗ 𝓤 _ (emp 𝓤))
       (walk 𝓤 H A W mem run (κs .0) (κs .1 .0) (κs .1 .1 .0) (qs .0) (qs .1 .0) (qs .1 .1 .0) (a .0) (a .1 .0) (a .1 .1 .0) (a .1 .1 .1 .0) (a .1 .1 .1 .1 .0) (a .1 .1 .1 .1 .1 .0) (are .0) (are .1 .0 .0 .1) (are .1 .1 .0 .1) (are .1 .1 .1 .0 .1) (are .1 .1 .1 .1 .0 .0 .1) (are .1 .1 .1 .1 .1 .0 .0 .1) C Λ fm known-out-of-limits known-first known-of-said known-lookup known-seal-called))
 
-seal-meets : {M : Type 1} (𝓤 : URA M) (H : Heap 𝓤) (A : Atoms 𝓤) → Given 𝓤 H A → (mem : Memory → SProp 𝓤) (run : Routine → Fun 𝓤) (𝓣 : Tables 𝓤 H) → Triple 𝓤 (𝓣 .C #headend-steps·search·out-of-limits) (OutOfLimitsᶜ 𝓤 H A mem run) → Triple 𝓤 (𝓣 .C #records·first) (Firstᶜ 𝓤 H A mem run) → Triple 𝓤 (𝓣 .C #headend-steps·search·of-said) (OfSaidᶜ 𝓤 H A mem run) → Triple 𝓤 (𝓣 .C #records·lookup) (Lookupᶜ 𝓤 H A mem run) → Triple 𝓤 (𝓣 .C #headend-steps·frames·seal-called) (SealCalledᶜ 𝓤 H A mem run)
+seal-meets : {M : Type 1} (𝓤 : URA M) (H : Heap 𝓤) (A : Atoms 𝓤) → Given 𝓤 H A → (mem : Memory → SProp 𝓤) (run : Routine → Fun 𝓤) (𝓣 : Tables 𝓤 H) → Triple 𝓤 (𝓣 .C #headend-limits·search·out-of-limits) (OutOfLimitsᶜ 𝓤 H A mem run) → Triple 𝓤 (𝓣 .C #records·first) (Firstᶜ 𝓤 H A mem run) → Triple 𝓤 (𝓣 .C #headend-limits·search·of-said) (OfSaidᶜ 𝓤 H A mem run) → Triple 𝓤 (𝓣 .C #records·lookup) (Lookupᶜ 𝓤 H A mem run) → Triple 𝓤 (𝓣 .C #headend-frames·frames·seal-called) (SealCalledᶜ 𝓤 H A mem run)
     → Meets 𝓤 H A seal₀.signature (WpFn 𝓤 H (𝓣 .C) (𝓣 .Λ) code.function) (seal₀.spec 𝓤 H A mem run)
 seal-meets 𝓤 H A W mem run 𝓣 known-out-of-limits known-first known-of-said known-lookup known-seal-called =
     walk-meets 𝓤 H A seal₀.ended stayed W (goes-none 𝓤 H A W 3 (λ _. HeadEnd₁.the-row) yes (λ κs x f. refl), (goes-none-slice 𝓤 H A W 3 (0 ∷ []) tt (plain (λ _. Assoc₁.the-row)) yes, (goes-none 𝓤 H A W 3 (λ _. u64) yes (λ κs x f. refl), (goes-none 𝓤 H A W 3 (λ _. u16) yes (λ κs x f. refl), (goes-gave-slice 𝓤 H A W 3 1 tt (plain (λ _. u8)), (goes-gave-slice 𝓤 H A W 3 2 tt (plain (λ _. u8)), tt)))))) (seal₀.clauses 𝓤 H A mem run)
@@ -404,8 +404,8 @@ seal-spec 𝓤 H 𝓜 𝓖 𝓡 =
     entered 𝓤 H (tripleOf 𝓤 H (𝓖 .A) seal₀.signature (seal₀.spec 𝓤 H (𝓖 .A) (𝓜 .mem) (𝓡 .run)))
     (tables 𝓤 H 𝓜 𝓡 code.env .C) (tables 𝓤 H 𝓜 𝓡 code.env .Λ) #here code.function (code.unfolded 𝓤 H 𝓜 𝓡)
     (seal-meets 𝓤 H (𝓖 .A) (givenOf 𝓤 H 𝓜 𝓖) (𝓜 .mem) (𝓡 .run) (tablesOf 𝓤 H 𝓜 (tables 𝓤 H 𝓜 𝓡 code.env))
-    (cited 𝓤 H (OutOfLimitsᶜ 𝓤 H (𝓖 .A) (𝓜 .mem) (𝓡 .run)) 𝓜 𝓡 code.env #headend-steps·search·out-of-limits out-of-limits-def.routine code.calls-headend-steps·search·out-of-limits (out-of-limits-thm.met 𝓤 H 𝓜 𝓖 𝓡))
+    (cited 𝓤 H (OutOfLimitsᶜ 𝓤 H (𝓖 .A) (𝓜 .mem) (𝓡 .run)) 𝓜 𝓡 code.env #headend-limits·search·out-of-limits out-of-limits-def.routine code.calls-headend-limits·search·out-of-limits (out-of-limits-thm.met 𝓤 H 𝓜 𝓖 𝓡))
     (cited 𝓤 H (Firstᶜ 𝓤 H (𝓖 .A) (𝓜 .mem) (𝓡 .run)) 𝓜 𝓡 code.env #records·first first-def.routine code.calls-records·first (first-thm.met 𝓤 H 𝓜 𝓖 𝓡))
-    (cited 𝓤 H (OfSaidᶜ 𝓤 H (𝓖 .A) (𝓜 .mem) (𝓡 .run)) 𝓜 𝓡 code.env #headend-steps·search·of-said of-said-def.routine code.calls-headend-steps·search·of-said (of-said-thm.met 𝓤 H 𝓜 𝓖 𝓡))
+    (cited 𝓤 H (OfSaidᶜ 𝓤 H (𝓖 .A) (𝓜 .mem) (𝓡 .run)) 𝓜 𝓡 code.env #headend-limits·search·of-said of-said-def.routine code.calls-headend-limits·search·of-said (of-said-thm.met 𝓤 H 𝓜 𝓖 𝓡))
     (cited 𝓤 H (Lookupᶜ 𝓤 H (𝓖 .A) (𝓜 .mem) (𝓡 .run)) 𝓜 𝓡 code.env #records·lookup lookup-def.routine code.calls-records·lookup (lookup-thm.met 𝓤 H 𝓜 𝓖 𝓡))
-    (cited 𝓤 H (SealCalledᶜ 𝓤 H (𝓖 .A) (𝓜 .mem) (𝓡 .run)) 𝓜 𝓡 code.env #headend-steps·frames·seal-called seal-called-def.routine code.calls-headend-steps·frames·seal-called (seal-called-thm.met 𝓤 H 𝓜 𝓖 𝓡)))
+    (cited 𝓤 H (SealCalledᶜ 𝓤 H (𝓖 .A) (𝓜 .mem) (𝓡 .run)) 𝓜 𝓡 code.env #headend-frames·frames·seal-called seal-called-def.routine code.calls-headend-frames·frames·seal-called (seal-called-thm.met 𝓤 H 𝓜 𝓖 𝓡)))

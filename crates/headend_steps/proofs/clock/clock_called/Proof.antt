@@ -2,8 +2,8 @@
 use mathlib.Core.Path.{sym, _∙_, ap}
 use borrow.Author.Tests.{not-true, not-false}
 use Rattle.keys.specs.declared.refusal.Answer.{Answer}
-use Rattle.headend_steps.specs.declared.state.HeadEnd.{HeadEnd}
-use Rattle.headend_steps.specs.State.{answeredCall}
+use Rattle.headend_state.specs.declared.state.HeadEnd.{HeadEnd}
+use Rattle.headend_state.specs.State.{answeredCall}
 use Rattle.headend_steps.specs.Clock.{clockFor, clockCalled}
 use Rattle.headend_steps.proofs.AskedLaws.{clock-refused, clock-moved}
 use borrow.Author.Needs.{needs}

@@ -3,8 +3,8 @@ use mathlib.Core.Path.{sym, _∙_, ap}
 use borrow.Author.Tests.{not-true, not-false}
 use Rattle.keys.specs.declared.refusal.Answer.{Answer}
 use Rattle.keys.proofs.AnswerLaws.{is-done}
-use Rattle.headend_steps.specs.declared.state.HeadEnd.{HeadEnd}
-use Rattle.headend_steps.specs.State.{answeredCall}
+use Rattle.headend_state.specs.declared.state.HeadEnd.{HeadEnd}
+use Rattle.headend_state.specs.State.{answeredCall}
 use Rattle.headend_steps.specs.Listing.{listFor, listCalled}
 use Rattle.headend_steps.proofs.AskedLaws.{list-refused, list-grown, list-asked}
 use borrow.Author.Needs.{needs}

@@ -11,11 +11,11 @@ use Rattle.keys.specs.Octets.{overlay}
 use Rattle.keys.proofs.AnswerLaws.{is-done}
 use Rattle.association.specs.declared.search.Found.{Found}
 use Rattle.wire.specs.declared.fields.Reading.{Reading}
-use Rattle.headend_steps.specs.declared.state.HeadEnd.{HeadEnd}
-use Rattle.headend_steps.specs.declared.entries.Known.{Known}
-use Rattle.headend_steps.specs.declared.answers.Reaction.{Reaction}
-use Rattle.headend_steps.specs.Entries.{knownOf}
-use Rattle.headend_steps.specs.Answers.{reactionOf, ReactionFits}
+use Rattle.headend_state.specs.declared.state.HeadEnd.{HeadEnd}
+use Rattle.headend_state.specs.declared.entries.Known.{Known}
+use Rattle.headend_answers.specs.declared.answers.Reaction.{Reaction}
+use Rattle.headend_state.specs.Entries.{knownOf}
+use Rattle.headend_answers.specs.Answers.{reactionOf, ReactionFits}
 use Rattle.headend_steps.specs.Receive.{receiveAnswer, calledFor, writtenFor, reactionTo, receiveCalled, receiveWritten, Writable}
 use Rattle.headend_steps.proofs.AskedLaws.{receive-refused, receive-done}
 use Rattle.headend_steps.proofs.AnswerFits.{reaction-ready, reaction-writable}

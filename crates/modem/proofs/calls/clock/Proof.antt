@@ -1,11 +1,11 @@
 -- `modem::calls::clock` meets its contract.
-use Rattle.modem.proofs.LimitsLaws.{limits-of}
+use Rattle.modem_limits.proofs.LimitsLaws.{limits-of}
 use Rattle.modem.proofs.AskedLaws.{waits-ready}
 use Rattle.modem.proofs.AnswerLaws.{refused-by, done-by, limits-no, length-no, first-met, clock-early, clock-late, clock-met, clock-no, clock-yes, out-there}
 use Rattle.modem.proofs.SentFits.{clocked-out}
 use Rattle.modem.specs.Calls.{clockOf, clockFits, clockQuestions}
 use Rattle.modem_steps.specs.Clock.{clocked}
-use Rattle.modem.specs.Limits.{modemFits}
+use Rattle.modem_limits.specs.Limits.{modemFits}
 use Rattle.keys.specs.declared.refusal.Refusal.the-variants.{OutOfLimits, WrongLength, ClockOutOfOrder}
 use borrow.Author.Tests.{not-true, not-false}
 use lib.ListN.{length}

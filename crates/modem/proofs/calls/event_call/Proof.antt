@@ -1,6 +1,6 @@
 -- `modem::calls::event_call` meets its contract.
 use Rattle.modem.proofs.AnswerLaws.{event-there, out-there}
-use Rattle.modem.specs.Limits.{modemFits}
+use Rattle.modem_limits.specs.Limits.{modemFits}
 use mathlib.Core.Bool.{true, false}
 use mathlib.Core.Path.{_≡_}
 use Rattle.modem.proofs.AnswerLaws.{refused-by, done-by, limits-no, length-no, first-met}

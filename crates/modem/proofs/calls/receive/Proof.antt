@@ -4,8 +4,8 @@ use Rattle.modem.proofs.SentFits.{message-out}
 use Rattle.modem.proofs.AskedLaws.{fits-ready, takeable}
 use Rattle.keys.specs.Refusal.{isDone}
 use Rattle.modem.specs.Calls.{receiveOf}
-use Rattle.modem.specs.Limits.{modemFits}
-use Rattle.modem_steps.specs.Receive.{widthsFit, saidKnown, identifierFits, digestHolds, receiveQuestions, Takeable, received, fieldsIn}
+use Rattle.modem_limits.specs.Limits.{modemFits}
+use Rattle.modem_receive.specs.Receive.{widthsFit, saidKnown, identifierFits, digestHolds, receiveQuestions, Takeable, received, fieldsIn}
 use Rattle.wire.specs.Messages.{messageAnswer}
 use Rattle.wire.specs.declared.fields.Receiver.the-variants.{Modem as AtModem}
 use Rattle.wire.specs.declared.fields.Fields.{Fields}

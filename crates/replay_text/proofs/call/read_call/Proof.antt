@@ -3,7 +3,7 @@ use native.Mathlib.Omega.{arith}
 use denote.Ref.{now}
 use borrow.Author.Tests.{not-true, not-false}
 use borrow.Author.Needs.{needs}
-use Rattle.replay_text.specs.Places.{textOf}
+use Rattle.line_fields.specs.Places.{textOf}
 use Rattle.replay_text.proofs.CallLaws.{long-reads, other-reads, known-reads}
 use Rattle.replay_text.proofs.call.read_call.Statement.{statement}
 use Rattle.replay_text.proofs.call.read_call.Tie as tie

@@ -1,7 +1,7 @@
 -- `three_at` meets its contract.
 use denote.Ref.{now}
 use borrow.Author.Needs.{needs}
-use Rattle.replay_text.proofs.SaidLaws.{three-is}
+use Rattle.replay_text.proofs.SetupLaws.{three-read}
 use Rattle.replay_text.proofs.setup.three_at.Statement.{statement}
 use Rattle.replay_text.proofs.setup.three_at.Tie as tie
 
@@ -41,7 +41,7 @@ returns c =
     let number-of = c .before .before .before .before .before .before .before .before .before .before .number-of in
     let number-of2 = c .before .before .before .before .before .before .before .number-of2 in
     let number-of3 = c .before .before .before .before .number-of3 in
-    three-is (now (a .line)) (a .at) (field-at .result) (field-at2 .result) (field-at3 .result) (number-of .result) (number-of2 .result) (number-of3 .result) (field-at .ensures .0) (number-of .ensures) (field-at2 .ensures .0) (number-of2 .ensures) (field-at3 .ensures .0) (number-of3 .ensures)
+    three-read (now (a .line)) (a .at) (field-at .result) (field-at2 .result) (field-at3 .result) (number-of .result) (number-of2 .result) (number-of3 .result) (field-at .ensures .0) (number-of .ensures) (field-at2 .ensures .0) (number-of2 .ensures) (field-at3 .ensures .0) (number-of3 .ensures)
 
 pub three-at-spec : {M : Type 1} → statement M
 three-at-spec =

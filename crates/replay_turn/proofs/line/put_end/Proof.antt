@@ -1,7 +1,7 @@
 -- `replay_turn::line::put_end` meets its contract.
 use mathlib.Core.Path.{refl}
 use native.Mathlib.Omega.{arith}
-use Rattle.replay_turn.specs.declared.start.Stage.the-variants.{SettingsNames, SettingsValues, ModemNames, ModemValues, Running, Stopped}
+use Rattle.replay_start.specs.declared.start.Stage.the-variants.{SettingsNames, SettingsValues, ModemNames, ModemValues, Running, Stopped}
 use Rattle.replay_turn.proofs.LineLaws.{ended-at}
 use borrow.Author.Needs.{needs}
 use Rattle.replay_turn.proofs.line.put_end.Statement.{statement}

@@ -1,6 +1,6 @@
 -- `replay_turn::line::take_call` meets its contract.
 use mathlib.Core.Path.{ap}
-use Rattle.replay_turn.specs.declared.start.Stage.the-variants.{Running}
+use Rattle.replay_start.specs.declared.start.Stage.the-variants.{Running}
 use borrow.Author.Needs.{needs}
 use Rattle.replay_turn.proofs.line.take_call.Statement.{statement}
 use Rattle.replay_turn.proofs.line.take_call.Tie as tie

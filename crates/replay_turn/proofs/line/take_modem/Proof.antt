@@ -2,7 +2,7 @@
 use mathlib.Core.Path.{_∙_, ap}
 use lib.ListN.{length}
 use Rattle.keys.specs.Octets.{overlay}
-use Rattle.replay_turn.specs.Replay.{modemRead, modemText}
+use Rattle.replay_start.specs.Replay.{modemRead, modemText}
 use borrow.Author.Needs.{needs}
 use Rattle.replay_turn.proofs.line.take_modem.Statement.{statement}
 use Rattle.replay_turn.proofs.line.take_modem.Tie as tie

@@ -3,8 +3,8 @@ use mathlib.Core.Path.{_∙_, ap}
 use mathlib.Core.Bool.{cond}
 use lib.ListN.{length}
 use Rattle.keys.specs.Octets.{overlay}
-use Rattle.replay_turn.specs.declared.start.Stage.the-variants.{ModemValues, Stopped}
-use Rattle.replay_turn.specs.Replay.{atStage, startText}
+use Rattle.replay_start.specs.declared.start.Stage.the-variants.{ModemValues, Stopped}
+use Rattle.replay_start.specs.Replay.{atStage, startText}
 use borrow.Author.Needs.{needs}
 use Rattle.replay_turn.proofs.line.take_modem_names.Statement.{statement}
 use Rattle.replay_turn.proofs.line.take_modem_names.Tie as tie

@@ -3,7 +3,7 @@ use mathlib.Core.Path.{_∙_, ap}
 use lib.ListN.{length}
 use Rattle.keys.specs.Octets.{overlay}
 use Rattle.replay_text.specs.declared.setup.ReadSettings.{ReadSettings}
-use Rattle.replay_turn.specs.Replay.{settingsRead, startText}
+use Rattle.replay_start.specs.Replay.{settingsRead, startText}
 use borrow.Author.Needs.{needs}
 use Rattle.replay_turn.proofs.line.take_settings.Statement.{statement}
 use Rattle.replay_turn.proofs.line.take_settings.Tie as tie

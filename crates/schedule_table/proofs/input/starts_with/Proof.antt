@@ -6,7 +6,7 @@ use lib.Seq.{getD-take, length-take-le}
 use lib.ListN.{length, getD, take, drop}
 use denote.Ref.{now}
 use borrow.Author.Needs.{needs}
-use Rattle.schedule_table.specs.Schedule.{sameOctets}
+use Rattle.text.specs.Same.{sameOctets}
 use Rattle.schedule_table.proofs.InputLaws.{starts-short, same-end, same-here, same-not}
 use Rattle.schedule_table.proofs.input.starts_with.Statement.{statement}
 use Rattle.schedule_table.proofs.input.starts_with.Tie as tie

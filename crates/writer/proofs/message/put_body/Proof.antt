@@ -2,9 +2,9 @@
 use mathlib.Core.Path.{_≡_}
 use denote.Ref.{now}
 use borrow.Author.Needs.{needs}
-use Rattle.writer.proofs.CodeLaws.{key-short, last-code, items-4, items-5, items-6, items-7, items-8, items-9, items-10, items-11, items-12}
-use Rattle.writer.proofs.CodeLaws.{key-short, items-4, items-5, items-6, items-7, items-8, items-9, items-10, items-11, items-12}
-use Rattle.writer.proofs.Stores.{wrote-as, wrote-none}
+use Rattle.writer_parts.proofs.CodeLaws.{key-short, last-code, items-4, items-5, items-6, items-7, items-8, items-9, items-10, items-11, items-12}
+use Rattle.writer_parts.proofs.CodeLaws.{key-short, items-4, items-5, items-6, items-7, items-8, items-9, items-10, items-11, items-12}
+use Rattle.writer_parts.proofs.Stores.{wrote-as, wrote-none}
 use Rattle.writer.proofs.message.put_body.Statement.{statement}
 use Rattle.writer.proofs.message.put_body.Tie as tie
 

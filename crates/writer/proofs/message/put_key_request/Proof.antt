@@ -1,6 +1,6 @@
 -- `writer::message::put_key_request` meets its contract.
 use borrow.Author.Needs.{needs}
-use Rattle.writer.proofs.Stores.{then-items}
+use Rattle.writer_parts.proofs.Stores.{then-items}
 use Rattle.writer.proofs.message.put_key_request.Statement.{statement}
 use Rattle.writer.proofs.message.put_key_request.Tie as tie
 

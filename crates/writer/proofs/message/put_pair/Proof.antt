@@ -1,7 +1,7 @@
 -- `writer::message::put_pair` meets its contract.
 use native.Mathlib.Omega.{arith}
 use borrow.Author.Needs.{needs}
-use Rattle.writer.proofs.Stores.{then-items}
+use Rattle.writer_parts.proofs.Stores.{then-items}
 use Rattle.writer.proofs.message.put_pair.Statement.{statement}
 use Rattle.writer.proofs.message.put_pair.Tie as tie
 

@@ -9,7 +9,7 @@ use borrow.Author.Tests.{not-true, not-false}
 use borrow.Author.Needs.{needs}
 use Rattle.wire.specs.Limits.{fieldsFit, authKeyFits}
 use Rattle.wire.specs.Writing.{messageOf, noDigest}
-use Rattle.writer.specs.Parts.{Writable}
+use Rattle.writer_parts.specs.Parts.{Writable}
 use Rattle.writer.proofs.WriteLaws.{fits-writable, whole-length, refused-fields, refused-key, refused-slice, written}
 use Rattle.writer.proofs.write.write.Statement.{statement}
 use Rattle.writer.proofs.write.write.Tie as tie

@@ -1,8 +1,6 @@
 -- `modem_steps::state::Work::told_reply` meets its contract.
 use Rattle.modem_steps.proofs.ReadyLaws.{tek-ready}
 use Rattle.modem_steps.specs.Slots.{toldReply}
-use mathlib.Core.Path.{subst, sym}
-use native.Mathlib.Omega.{arith}
 use borrow.Author.Needs.{needs}
 use Rattle.modem_steps.proofs.state.Work.told_reply.Statement.{statement}
 use Rattle.modem_steps.proofs.state.Work.told_reply.Tie as tie

@@ -1,3 +1,0 @@
-pub mod ArrayLent
-pub mod ApplyLaws
-pub mod GaveLaws

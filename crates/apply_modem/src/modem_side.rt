@@ -1,0 +1,139 @@
+// The modem's calls, applied to both ends.
+ghost use mathlib.Core.Path.{_≡_};
+ghost use lib.Dec.{eqb};
+ghost use lib.ListN.{length};
+ghost use Rattle.keys.specs.Octets.{overlay};
+ghost use Rattle.keys.specs.Refusal.{answerNumber, isDone};
+ghost use Rattle.modem.specs.Calls.{clockOf};
+ghost use Rattle.plant.specs.World as World;
+ghost use Rattle.apply_modem.specs.Steps.{worldOf};
+ghost use Rattle.apply_modem.specs.Gave.{gaveOf};
+ghost use Rattle.apply_modem.specs.Applied.{appliedOf, quietOf, clockedOf};
+use crate::ends::Applied;
+use crate::ends::Ends;
+use crate::ends::quiet;
+use crate::ends::refused;
+use association::record::Assoc;
+use calls::Call;
+use headend_state::state::HeadEnd;
+use keys::numbers::TekNumber;
+use keys::refusal::answer_number;
+use keys::refusal::is_done;
+use modem::calls::clock;
+use modem::calls::established;
+use modem::calls::reauth;
+use modem::calls::receive;
+use modem_frames::frames::open;
+use modem_frames::frames::seal;
+use modem_steps::state::Called;
+
+// What a call of the modem gives, with the head-end and its records.
+fn of_modem(c: Called, head: HeadEnd, records: [Assoc; 64]) -> Applied
+    ensures { λ r. ⌜ r ≡ quietOf (answerNumber (c .answer)) (c .count) head records (c .modem) ⌝ }
+{
+    let a = c.answer;
+    let m = c.modem;
+    let number = answer_number(a);
+    quiet(number, c.count, head, records, m)
+}
+
+// The modem's part of the clock, with the head-end and the records after theirs.
+pub fn clock_modem(e: Ends, head: HeadEnd, records: [Assoc; 64], t: u64, out: &mut [u8]) -> Applied
+    ensures { λ r. ⌜ (r ≡ clockedOf (isDone (clockOf (e .modem) t (length (now (out .entry))) .called .answer)) (clockOf (e .modem) t (length (now (out .entry))) .called) e head records)
+        × (now (out .exit) ≡ overlay (now (out .entry)) (clockOf (e .modem) t (length (now (out .entry))) .written)) ⌝ }
+{
+    let m = e.modem;
+    let c = clock(m, t, out);
+    let a = c.answer;
+    if !is_done(a) {
+        let number = answer_number(a);
+        return refused(number, e);
+    }
+    of_modem(c, head, records)
+}
+
+pub fn apply_established(e: Ends, out: &mut [u8]) -> Applied
+    ensures { λ r. ⌜ (r ≡ appliedOf (worldOf e) (World.established (length (now (out .entry)))))
+        × (now (out .exit) ≡ overlay (now (out .entry)) (gaveOf (worldOf e) (World.established (length (now (out .entry)))) .sent)) ⌝ }
+{
+    let head = e.head;
+    let records = e.records;
+    let m = e.modem;
+    let c = established(m, out);
+    of_modem(c, head, records)
+}
+
+pub fn apply_reauth(e: Ends, out: &mut [u8]) -> Applied
+    ensures { λ r. ⌜ (r ≡ appliedOf (worldOf e) (World.reauth (length (now (out .entry)))))
+        × (now (out .exit) ≡ overlay (now (out .entry)) (gaveOf (worldOf e) (World.reauth (length (now (out .entry)))) .sent)) ⌝ }
+{
+    let head = e.head;
+    let records = e.records;
+    let m = e.modem;
+    let c = reauth(m, out);
+    of_modem(c, head, records)
+}
+
+pub fn apply_down(e: Ends, c: Call, octets: &[u8], out: &mut [u8]) -> Applied
+    ensures { λ r. ⌜ (r ≡ appliedOf (worldOf e) (World.down (eqb (c .word) 1) (now (octets .entry)) (length (now (out .entry)))))
+        × (now (out .exit) ≡ overlay (now (out .entry)) (gaveOf (worldOf e) (World.down (eqb (c .word) 1) (now (octets .entry)) (length (now (out .entry)))) .sent)) ⌝ }
+{
+    let head = e.head;
+    let records = e.records;
+    let m = e.modem;
+    let r = receive(m, octets, c.word == 1, out);
+    of_modem(r, head, records)
+}
+
+pub fn apply_seal_up(e: Ends, c: Call, tek: &mut [u8], vector: &mut [u8]) -> Applied
+    ensures { λ r. ⌜ (r ≡ appliedOf (worldOf e) (World.sealUp (c .said) (length (now (tek .entry))) (length (now (vector .entry)))))
+        × ((now (tek .exit) ≡ overlay (now (tek .entry)) (gaveOf (worldOf e) (World.sealUp (c .said) (length (now (tek .entry))) (length (now (vector .entry)))) .out .tek))
+        × (now (vector .exit) ≡ overlay (now (vector .entry)) (gaveOf (worldOf e) (World.sealUp (c .said) (length (now (tek .entry))) (length (now (vector .entry)))) .out .vector))) ⌝ }
+{
+    let m = e.modem;
+    let r = seal(m, c.said, tek, vector);
+    let a = r.answer;
+    let key = r.number;
+    let number = answer_number(a);
+    Applied {
+        number: number,
+        key: key,
+        width: r.width,
+        count: 0,
+        ends: e,
+    }
+}
+
+pub fn apply_open_down(
+    e: Ends,
+    c: Call,
+    tek: &mut [u8],
+    vector: &mut [u8],
+    out: &mut [u8],
+) -> Applied
+    ensures { λ r. ⌜ (r ≡ appliedOf (worldOf e) (World.openDown (c .word) (c .address) (c .said) (c .number) (length (now (tek .entry))) (length (now (vector .entry))) (length (now (out .entry)))))
+        × ((now (tek .exit) ≡ overlay (now (tek .entry)) (gaveOf (worldOf e) (World.openDown (c .word) (c .address) (c .said) (c .number) (length (now (tek .entry))) (length (now (vector .entry))) (length (now (out .entry)))) .out .tek))
+        × ((now (vector .exit) ≡ overlay (now (vector .entry)) (gaveOf (worldOf e) (World.openDown (c .word) (c .address) (c .said) (c .number) (length (now (tek .entry))) (length (now (vector .entry))) (length (now (out .entry)))) .out .vector))
+        × (now (out .exit) ≡ overlay (now (out .entry)) (gaveOf (worldOf e) (World.openDown (c .word) (c .address) (c .said) (c .number) (length (now (tek .entry))) (length (now (vector .entry))) (length (now (out .entry)))) .sent)))) ⌝ }
+{
+    let head = e.head;
+    let records = e.records;
+    let m = e.modem;
+    let n = c.number;
+    let r = open(m, c.word, c.address, c.said, n, tek, vector, out);
+    let a = r.answer;
+    let after = r.modem;
+    let number = answer_number(a);
+    let ends = Ends {
+        head: head,
+        records: records,
+        modem: after,
+    };
+    Applied {
+        number: number,
+        key: TekNumber(0),
+        width: r.width,
+        count: r.count,
+        ends: ends,
+    }
+}

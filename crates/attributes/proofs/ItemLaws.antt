@@ -1,0 +1,108 @@
+-- Laws of the list of attributes and of `nextAt`: what the list is from a place of a holder on.
+use Prim.Native.Nat.{ℕ, zero, suc, _+_, _*_, _-_, _≤_, _<_}
+use mathlib.Core.Path.{_≡_, refl, sym, ap, _∙_, subst}
+use mathlib.Core.List.{List, [], _∷_}
+use mathlib.Core.Bool.{Bool, true, false}
+use lib.ListN.{length, getD, take, drop, length-drop, drop-of-length-le}
+use lib.Seq.{drop-cons, drop-drop, length-take-le}
+use lib.Dec.{leb, ltb}
+use native.Mathlib.Omega.{arith}
+use native.Mathlib.Numerals.{towards-suc}
+use borrow.Author.Tests.{leb-true, leb-false, ltb-true, ltb-false}
+use Rattle.wire.specs.Attributes.{Item, attr, cut, item, itemsWith, items}
+use Rattle.wire.proofs.AttributesLaws.{items-attr, items-cut, items-few}
+use Rattle.attributes.specs.Next.{lengthAt, pickNext, nextAt}
+use Rattle.attributes.specs.declared.attribute.Next.{Next}
+use Rattle.attributes.specs.declared.attribute.Next.the-variants.{Attr, Cut, End}
+
+-- the three octets of an attribute's head, as the code reads them
+pub head : (s : List ℕ) (at : ℕ) → at + 3 ≤ length s → drop at s ≡ getD s at 0 ∷ getD s (at + 1) 0 ∷ getD s (at + 2) 0 ∷ drop (at + 3) s
+head s at h =
+    let h0 : at < length s = omega arith in
+    let h1 : suc at < length s = omega arith in
+    let h2 : suc (suc at) < length s = omega arith in
+    simp towards-suc
+    (drop-cons s at 0 h0 ∙ ap (λ (l : List ℕ). getD s at 0 ∷ l) (drop-cons s (suc at) 0 h1 ∙ ap (λ (l : List ℕ). getD s (suc at) 0 ∷ l) (drop-cons s (suc (suc at)) 0 h2)))
+
+-- what `next_at` says of the list of attributes from a place on
+pub record Found (s : List ℕ) (at k start n : ℕ) : Type 0 where
+  pub starts : start ≡ at + 3
+  pub ends : start + n ≤ length s
+  pub kind : k ≡ getD s at 0
+  pub here : items (drop at s) ≡ attr k (take n (drop start s)) ∷ items (drop (start + n) s)
+
+abbrev pub At : List ℕ → ℕ → Next → Type 0
+At s at (Attr k start n) = Found s at k start n
+At s at Cut = items (drop at s) ≡ cut ∷ []
+At s at End = items (drop at s) ≡ []
+
+at-end : (s : List ℕ) (at : ℕ) → length s ≤ at → items (drop at s) ≡ []
+unfolding items itemsWith
+at-end s at h = rw (drop-of-length-le s h)
+
+at-found : (s : List ℕ) (at n : ℕ) → at + 3 + n ≤ length s → n ≡ lengthAt s at → Found s at (getD s at 0) (at + 3) n
+at-found s at n h e =
+    let l : lengthAt s at ≤ length (drop (at + 3) s) = simp length-drop (omega arith) in
+    record {
+      starts = refl;
+      ends = h;
+      kind = refl;
+      here = rw e (ap items (head s at (omega arith)) ∙ items-attr _ _ _ _ l ∙ simp drop-drop);
+    }
+
+pub nextAt-at : (s : List ℕ) (at : ℕ) → At s at (nextAt s at)
+unfolding nextAt
+nextAt-at s at = go (leb (length s) at) refl (ltb (length s - at) 3) refl (leb (lengthAt s at) (length s - at - 3)) refl
+  where
+    go : (p : Bool) → leb (length s) at ≡ p → (q : Bool) → ltb (length s - at) 3 ≡ q → (r : Bool) → leb (lengthAt s at) (length s - at - 3) ≡ r
+        → At s at (pickNext p End (pickNext q Cut (pickNext r (Attr (getD s at 0) (at + 3) (lengthAt s at)) Cut)))
+    go true ep q eq r er = at-end s at (leb-true _ _ ep)
+    go false ep true eq r er = items-few (drop at s) (simp length-drop (omega (arith, leb-false))) (simp length-drop (omega (arith, ltb-true)))
+    go false ep false eq true er = at-found s at (lengthAt s at) (omega (arith, leb-false, ltb-false, leb-true)) refl
+    go false ep false eq false er =
+        let h : at + 3 ≤ length s = omega (arith, leb-false, ltb-false) in
+        ap items (head s at h) ∙ items-cut _ _ _ _ (simp length-drop (omega (arith, leb-false)))
+
+-- what a `match` on the result r of `next_at` says
+module _ (s : List ℕ) (at : ℕ) {r : Next} (e : r ≡ nextAt s at) where
+  is : (q : Next) → r ≡ q → At s at q
+  is q g = subst (At s at) (sym e ∙ g) (nextAt-at s at)
+
+  pub at-attr : {k start n : ℕ} → r ≡ Attr k start n → Found s at k start n
+  at-attr {k} {start} {n} g = is (Attr k start n) g
+
+  pub at-cut : r ≡ Cut → items (drop at s) ≡ cut ∷ []
+  at-cut g = is Cut g
+
+  pub at-stop : r ≡ End → items (drop at s) ≡ []
+  at-stop g = is End g
+
+pub items-past : (s : List ℕ) (at : ℕ) → length s ≤ at → items (drop at s) ≡ []
+items-past s at h = at-end s at h
+
+-- the value found has the length told
+pub found-length : {s : List ℕ} {at k start n : ℕ} → Found s at k start n → length (take n (drop start s)) ≡ n
+found-length {s} {at} {k} {start} {n} f = length-take-le n (drop start s) (simp length-drop (omega (arith, f)))
+
+-- a cut is the last of a holder's attributes
+abbrev pub Ended : List Item → Type 0
+Ended [] = Unit
+Ended (attr k v ∷ l) = Ended l
+Ended (cut ∷ l) = l ≡ []
+
+ended-with : (f : ℕ) (s : List ℕ) → Ended (itemsWith f s)
+unfolding itemsWith
+ended-with zero s = tt
+ended-with (suc f) [] = tt
+ended-with (suc f) (k ∷ []) = refl
+ended-with (suc f) (k ∷ a ∷ []) = refl
+ended-with (suc f) (k ∷ a ∷ b ∷ r) =
+    go (leb (a * 256 + b) (length r)) (itemsWith f (drop (a * 256 + b) r)) (ended-with f (drop (a * 256 + b) r))
+  where
+    go : (t : Bool) (l : List Item) → Ended l → Ended (item t k (a * 256 + b) r l)
+    go true l w = w
+    go false l w = refl
+
+pub ended-items : (s : List ℕ) → Ended (items s)
+unfolding items
+ended-items s = ended-with (length s) s

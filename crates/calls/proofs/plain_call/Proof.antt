@@ -1,0 +1,13 @@
+-- `plain_call` meets its contract.
+use borrow.Author.Needs.{needs}
+use Rattle.calls.proofs.plain_call.Statement.{statement}
+use Rattle.calls.proofs.plain_call.Tie as tie
+
+no-listing-requires : tie.Need-no-listing-requires
+no-listing-requires c κs = search needs
+
+returns : tie.Need-returns
+returns c = cc
+
+pub plain-call-spec : {M : Type 1} → statement M
+plain-call-spec = tie.close (tie.spec no-listing-requires returns)

@@ -1,0 +1,90 @@
+-- Laws of the frame decision for C (`specs/Frame.antt`): what it gives by the first question that is not met, and where all are.
+use mathlib.Core.Path.{_≡_, refl, sym, _∙_, ap, subst}
+use mathlib.Core.Bool.{Bool, true, false, _&&_, _||_}
+use mathlib.Core.List.{List}
+use Prim.Native.Nat.{ℕ, suc, _≤_}
+use native.Mathlib.Omega.{arith}
+use lib.Dec.{leb, eqb}
+use lib.ListN.{length, take}
+use borrow.Author.Tests.{leb-true, eqb-true}
+use Rattle.keys.specs.declared.numbers.TekNumber.{TekNumber}
+use Rattle.keys.specs.declared.traffic.TrafficKey.{TrafficKey}
+use Rattle.keys.specs.declared.frame.Opening.{Opening}
+use Rattle.keys.specs.Octets.{overlay}
+use Rattle.keys.specs.Numbers.{tekInRange}
+use Rattle.keys.specs.Suites.{widthKnown}
+use Rattle.keys.specs.Traffic.{pairFits}
+use Rattle.keys.specs.Frame.{openingOf}
+use Rattle.keys.proofs.TestLaws.{both}
+use Rattle.frame_decision.specs.Frame.{Given, frameFits, slicesFit, isHeld, chosenOf, frameNumber, decisionOf, Gives}
+
+module _ (clock : ℕ) (older newer : TrafficKey) (w : ℕ) (number : TekNumber) (keys : ℕ) (tek vector : List ℕ) where
+  abbrev decided : Given
+  decided = decisionOf clock older newer w number keys (length tek) (length vector)
+
+  abbrev answered : ℕ
+  answered = frameNumber clock older newer w number keys (length tek) (length vector)
+
+  refused : (n : ℕ) → answered ≡ suc n → Gives decided tek vector (suc n) tek vector
+  unfolding decisionOf
+  refused n e = rw e (record { answers = refl; tek-holds = refl; vector-holds = refl })
+
+  pub limits-refused : frameFits clock older newer w number ≡ false → Gives decided tek vector 1 tek vector
+  unfolding frameNumber
+  limits-refused q₁ = refused 0 (simp q₁)
+
+  pub lengths-refused : frameFits clock older newer w number ≡ true → slicesFit keys (length tek) (length vector) ≡ false → Gives decided tek vector 2 tek vector
+  unfolding frameNumber
+  lengths-refused q₁ q₂ = refused 1 (simp (q₁, q₂))
+
+  module _ (by : Opening) (is : by ≡ openingOf clock number older newer) where
+    pub none-refused : frameFits clock older newer w number ≡ true → slicesFit keys (length tek) (length vector) ≡ true → isHeld by ≡ false
+        → Gives decided tek vector 13 tek vector
+    unfolding frameNumber
+    none-refused q₁ q₂ q₃ =
+        let q₃′ : isHeld (openingOf clock number older newer) ≡ false = ap isHeld (sym is) ∙ q₃ in
+        refused 12 (simp (q₁, q₂, q₃′))
+
+    pub key-given : frameFits clock older newer w number ≡ true → slicesFit keys (length tek) (length vector) ≡ true → isHeld by ≡ true → (k : TrafficKey)
+        → k ≡ chosenOf by older newer → (tek′ vector′ : List ℕ) → tek′ ≡ overlay tek (take w (k .tek)) → vector′ ≡ overlay vector (take w (k .vector))
+        → Gives decided tek vector 0 tek′ vector′
+    unfolding decisionOf frameNumber
+    key-given q₁ q₂ q₃ k e tek′ vector′ t v =
+        let q₃′ : isHeld (openingOf clock number older newer) ≡ true = ap isHeld (sym is) ∙ q₃ in
+        let k′ : k ≡ chosenOf (openingOf clock number older newer) older newer = e ∙ ap (λ (o : Opening). chosenOf o older newer) is in
+        simp (q₁, q₂, q₃′)
+        (record {
+          answers = refl;
+          tek-holds = t ∙ ap (λ (x : TrafficKey). overlay tek (take w (x .tek))) k′;
+          vector-holds = v ∙ ap (λ (x : TrafficKey). overlay vector (take w (x .vector))) k′;
+        })
+
+-- past question 1 the width is at most 16
+known-small : (w : ℕ) (a b : Bool) → a ≡ eqb w 8 → b ≡ eqb w 16 → (a || b) ≡ true → w ≤ 16
+known-small w true b p q e = omega (arith, eqb-true w 8 (sym p))
+known-small w false true p q e = omega (arith, eqb-true w 16 (sym q))
+known-small w false false p q e = let z : _≡_ {A = ℕ} 0 1 = cc in absurd (omega arith)
+
+pub width-small : (clock : ℕ) (older newer : TrafficKey) (w : ℕ) (number : TekNumber) → frameFits clock older newer w number ≡ true → w ≤ 16
+unfolding frameFits
+width-small clock older newer w number q₁ =
+    let a = both (leb clock 1000000000000 && widthKnown w && tekInRange number) (pairFits w clock older newer) q₁ in
+    let b = both (leb clock 1000000000000 && widthKnown w) (tekInRange number) (a .0) in
+    let d = both (leb clock 1000000000000) (widthKnown w) (b .0) in
+    known-small w (eqb w 8) (eqb w 16) refl refl (d .1)
+
+-- past question 2 both lent slices have 16 octets
+pub slices-long : (keys tek vector : ℕ) → slicesFit keys tek vector ≡ true → (16 ≤ tek) × (16 ≤ vector)
+unfolding slicesFit
+slices-long keys tek vector q₂ =
+    let a = both (eqb keys 64 && leb 16 tek) (leb 16 vector) q₂ in
+    let b = both (eqb keys 64) (leb 16 tek) (a .0) in
+    (leb-true 16 tek (b .1), leb-true 16 vector (a .1))
+
+-- the pair by other names for it
+pub of-pair : (clock : ℕ) {older older₀ newer newer₀ : TrafficKey} (w : ℕ) (number : TekNumber) (keys : ℕ) (tek vector : List ℕ) (r : ℕ) (tek′ vector′ : List ℕ)
+    → older ≡ older₀ → newer ≡ newer₀ → Gives (decisionOf clock older newer w number keys (length tek) (length vector)) tek vector r tek′ vector′
+    → Gives (decisionOf clock older₀ newer₀ w number keys (length tek) (length vector)) tek vector r tek′ vector′
+of-pair clock {older} {older₀} {newer} {newer₀} w number keys tek vector r tek′ vector′ o n g =
+    subst (λ (x : TrafficKey). Gives (decisionOf clock older₀ x w number keys (length tek) (length vector)) tek vector r tek′ vector′) n
+    (subst (λ (x : TrafficKey). Gives (decisionOf clock x newer w number keys (length tek) (length vector)) tek vector r tek′ vector′) o g)

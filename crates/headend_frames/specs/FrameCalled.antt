@@ -1,0 +1,16 @@
+-- What opening at the head-end hands back of what it gives: the octets themselves are in the lent slices, their counts here.
+use mathlib.Core.Path.{_≡_}
+use Prim.Native.Nat.{ℕ, _≤_}
+use lib.ListN.{length}
+use Rattle.keys.specs.declared.refusal.Answer.{Answer}
+use Rattle.keys.specs.Refusal.{answerNumber}
+use Rattle.headend_frames.specs.declared.frames.OpenedCall.{OpenedCall}
+use Rattle.headend_frames.specs.Frames.{HeadOpened}
+
+abbrev pub openCalled : HeadOpened → OpenedCall
+openCalled o = record { answer = o .answer; state = o .state; width = length (o .out .tek); count = length (o .invalid) }
+
+-- What writing asks once opening is answered; `FrameCallLaws` shows that an answer of document 01's questions has it
+pub record Openable (a : Answer) (said tek vector lent : ℕ) : Type 0 where
+  pub key : answerNumber a ≡ 0 → (16 ≤ tek) × (16 ≤ vector)
+  pub told : answerNumber a ≡ 13 → (said ≤ 16383) × (40 ≤ lent)

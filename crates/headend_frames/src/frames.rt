@@ -1,0 +1,295 @@
+// Frames at the head-end: sealing one for a modem and opening one from it, with what the search over the records found.
+ghost use mathlib.Core.Path.{_≡_};
+ghost use Prim.Native.Nat.{_≤_};
+ghost use lib.ListN.{length};
+ghost use Rattle.keys.specs.Octets.{overlay};
+ghost use Rattle.keys.specs.Sealing.{openedBy, sealCalled};
+ghost use Rattle.headend_state.specs.Entries.{knownOf};
+ghost use Rattle.headend_frames.specs.Frames.{isOwn, heldSuits, frameFits, sealAnswer, sealedWith, openAnswer, countedBy, invalidOctets, openedFor, openedWith};
+ghost use Rattle.headend_frames.specs.FrameCalled.{openCalled, Openable};
+use association::record::said_fits;
+use association::search::Found;
+use headend_answers::answers::error_answer;
+use headend_limits::limits::address_fits;
+use headend_limits::limits::head_fits;
+use headend_limits::search::found_suits;
+use headend_limits::search::records_fit;
+use headend_state::authorization::newest;
+use headend_state::entries::Known;
+use headend_state::entries::entry_of;
+use headend_state::entries::is_listing;
+use headend_state::state::HeadEnd;
+use headend_steps::receive::put_answer;
+use keys::frame::Opening;
+use keys::frame::decide;
+use keys::frame::is_serving;
+use keys::numbers::TekNumber;
+use keys::numbers::tek_in_range;
+use keys::refusal::Answer;
+use keys::refusal::Refusal;
+use keys::refusal::answer_number;
+use keys::refusal::ask;
+use keys::refusal::is_done;
+use keys::sealing::SealedCall;
+use keys::sealing::one_more;
+use keys::sealing::put_key;
+use keys::suites::width;
+use keys::traffic::TrafficKey;
+
+// What opening hands back: the answer, the head-end after it, how many octets of TEK and of vector were written, and how many of a
+// TEK Invalid.
+pub struct OpenedCall {
+    pub answer: Answer,
+    pub state: HeadEnd,
+    pub width: usize,
+    pub count: usize,
+}
+
+fn opened_call(a: Answer, h: HeadEnd, width: usize, count: usize) -> OpenedCall
+    ensures { λ r. ⌜ r ≡ record { answer = a; state = h; width = width; count = count } ⌝ }
+{
+    OpenedCall {
+        answer: a,
+        state: h,
+        width: width,
+        count: count,
+    }
+}
+
+// Question 10: the SAID is this modem's.
+fn is_own(k: Known, said: u16) -> bool
+    ensures { λ r. ⌜ r ≡ isOwn k said ⌝ }
+{
+    let e = k.entry;
+    let l = e.listing;
+    k.is_listed & is_listing(l, said)
+}
+
+// Question 1 of the record that a frame's key is taken from.
+fn held_suits(h: HeadEnd, len: usize, s: Found, k: Known, said: u16) -> bool
+    ensures { λ r. ⌜ r ≡ heldSuits h len s k said ⌝ }
+{
+    !is_own(k, said) | found_suits(h, len, s, k, said)
+}
+
+// Question 1 of a frame's address and SAID.
+fn frame_fits(h: HeadEnd, bad: usize, len: usize, s: Found, address: u64, said: u16) -> bool
+    ensures { λ r. ⌜ r ≡ frameFits h bad len s address said ⌝ }
+{
+    let k = entry_of(h, address);
+    head_fits(h)
+        & records_fit(h, bad, len)
+        & address_fits(address)
+        & said_fits(said)
+        & held_suits(h, len, s, k, said)
+}
+
+// All questions of sealing. `bad` is the place of the first record out of its limits, `len` the number of records lent, `s` what was
+// found for the SAID, and the last two are the lengths of the slices for TEK and vector.
+fn seal_answer(
+    h: HeadEnd,
+    bad: usize,
+    len: usize,
+    s: Found,
+    address: u64,
+    said: u16,
+    tek: usize,
+    vector: usize,
+) -> Answer
+    ensures { λ a. ⌜ a ≡ sealAnswer h bad len s address said tek vector ⌝ }
+{
+    let k = entry_of(h, address);
+    let q1 = frame_fits(h, bad, len, s, address, said);
+    let q2 = (h.used <= len) & (16 <= tek) & (16 <= vector);
+    let a10 = ask(is_own(k, said), Refusal::UnknownSaid, Answer::Done);
+    let a2 = ask(q2, Refusal::WrongLength, a10);
+    ask(q1, Refusal::OutOfLimits, a2)
+}
+
+// All questions of opening; the last length is that of the slice for a TEK Invalid.
+fn open_answer(
+    h: HeadEnd,
+    bad: usize,
+    len: usize,
+    s: Found,
+    direction: u8,
+    address: u64,
+    said: u16,
+    number: TekNumber,
+    tek: usize,
+    vector: usize,
+    lent: usize,
+) -> Answer
+    ensures { λ a. ⌜ a ≡ openAnswer h bad len s direction address said number tek vector lent ⌝ }
+{
+    let record = s.held;
+    let older = record.older;
+    let newer = record.newer;
+    let k = entry_of(h, address);
+    let q1 = frame_fits(h, bad, len, s, address, said) & (direction == 0) & tek_in_range(number);
+    let q2 = (h.used <= len) & (16 <= tek) & (16 <= vector) & (40 <= lent);
+    let q13 = is_serving(older, number, h.clock) | is_serving(newer, number, h.clock);
+    let a13 = ask(q13, Refusal::NoKeyForFrame, Answer::Done);
+    let a10 = ask(is_own(k, said), Refusal::UnknownSaid, a13);
+    let a2 = ask(q2, Refusal::WrongLength, a10);
+    ask(q1, Refusal::OutOfLimits, a2)
+}
+
+// The head-end after an opening that is answered with `no`: a frame taken, or refused with 10 or 13, is counted.
+fn counted(no: u8, h: HeadEnd) -> HeadEnd
+    ensures { λ r. ⌜ r ≡ countedBy no h ⌝ }
+{
+    let mut next = h;
+    if no == 0 {
+        next.taken = one_more(h.taken);
+        return next;
+    }
+    if (no == 10) | (no == 13) {
+        next.refused = one_more(h.refused);
+        return next;
+    }
+    h
+}
+
+// The octets of whichever held key opens the frame.
+fn put_opened(
+    o: Opening,
+    w: usize,
+    older: TrafficKey,
+    newer: TrafficKey,
+    tek: &mut [u8],
+    vector: &mut [u8],
+) -> usize
+    requires { ⌜ (w ≤ 16) × (16 ≤ length (now tek)) × (16 ≤ length (now vector)) ⌝ }
+    ensures { λ n. ⌜ (n ≡ length (openedBy o w older newer .tek))
+        × (now (tek .exit) ≡ overlay (now (tek .entry)) (openedBy o w older newer .tek))
+        × (now (vector .exit) ≡ overlay (now (vector .entry)) (openedBy o w older newer .vector)) ⌝ }
+{
+    match o {
+        Opening::ByOlder => put_key(older, w, tek, vector),
+        Opening::ByNewer => put_key(newer, w, tek, vector),
+        Opening::ByNeither => 0,
+    }
+}
+
+// A TEK Invalid to the modem of that address, where one of its authorization keys is active; how many octets is handed back.
+fn put_invalid(h: HeadEnd, address: u64, said: u16, out: &mut [u8]) -> usize
+    requires { ⌜ (said ≤ 16383) × (40 ≤ length (now out)) ⌝ }
+    ensures { λ n. ⌜ (n ≡ length (invalidOctets h (knownOf h address) said)) × (now (out .exit) ≡ overlay (now (out .entry)) (invalidOctets h (knownOf h address) said)) ⌝ }
+{
+    let k = entry_of(h, address);
+    let e = k.entry;
+    let keys = e.keys;
+    if keys.newer <= h.clock {
+        return 0;
+    }
+    let f = error_answer(11, 0, newest(keys), said, 4);
+    let none = [0u8; 1];
+    let key = &none[..0];
+    put_answer(f, key, out)
+}
+
+// Sealing, with what the searches over the records found: the older key's octets go to the front of the two slices.
+pub fn seal_called(
+    h: HeadEnd,
+    bad: usize,
+    len: usize,
+    s: Found,
+    address: u64,
+    said: u16,
+    tek: &mut [u8],
+    vector: &mut [u8],
+) -> SealedCall
+    ensures { λ c. ⌜ (c ≡ sealCalled (sealedWith h bad len s address said (length (now (tek .entry))) (length (now (vector .entry)))))
+        × (now (tek .exit) ≡ overlay (now (tek .entry)) (sealedWith h bad len s address said (length (now (tek .entry))) (length (now (vector .entry))) .out .tek))
+        × (now (vector .exit) ≡ overlay (now (vector .entry)) (sealedWith h bad len s address said (length (now (tek .entry))) (length (now (vector .entry))) .out .vector)) ⌝ }
+{
+    let a = seal_answer(h, bad, len, s, address, said, tek.len(), vector.len());
+    if !is_done(a) {
+        return SealedCall {
+            answer: a,
+            number: TekNumber(0),
+            width: 0,
+        };
+    }
+    let record = s.held;
+    let k = record.older;
+    let number = k.number;
+    let w = put_key(k, width(record.suite), tek, vector);
+    SealedCall {
+        answer: a,
+        number: number,
+        width: w,
+    }
+}
+
+// An opening that is answered with `a`: the octets of the key that opens the frame go to the front of the first two slices, those of a TEK
+// Invalid to the front of the third.
+fn open_by(
+    a: Answer,
+    h: HeadEnd,
+    s: Found,
+    address: u64,
+    said: u16,
+    number: TekNumber,
+    tek: &mut [u8],
+    vector: &mut [u8],
+    invalid: &mut [u8],
+) -> OpenedCall
+    requires { ⌜ Openable a said (length (now tek)) (length (now vector)) (length (now invalid)) ⌝ }
+    ensures { λ c. ⌜ (c ≡ openCalled (openedFor a h s address said number))
+        × (now (tek .exit) ≡ overlay (now (tek .entry)) (openedFor a h s address said number .out .tek))
+        × (now (vector .exit) ≡ overlay (now (vector .entry)) (openedFor a h s address said number .out .vector))
+        × (now (invalid .exit) ≡ overlay (now (invalid .entry)) (openedFor a h s address said number .invalid)) ⌝ }
+{
+    let no = answer_number(a);
+    let next = counted(no, h);
+    if no == 13 {
+        let n = put_invalid(h, address, said, invalid);
+        return opened_call(a, next, 0, n);
+    }
+    if no != 0 {
+        return opened_call(a, next, 0, 0);
+    }
+    let record = s.held;
+    let older = record.older;
+    let newer = record.newer;
+    let o = decide(older, newer, number, h.clock);
+    let w = put_opened(o, width(record.suite), older, newer, tek, vector);
+    opened_call(a, next, w, 0)
+}
+
+// Opening, with what the searches over the records found.
+pub fn open_called(
+    h: HeadEnd,
+    bad: usize,
+    len: usize,
+    s: Found,
+    direction: u8,
+    address: u64,
+    said: u16,
+    number: TekNumber,
+    tek: &mut [u8],
+    vector: &mut [u8],
+    invalid: &mut [u8],
+) -> OpenedCall
+    ensures { λ c. ⌜ (c ≡ openCalled (openedWith h bad len s direction address said number (length (now (tek .entry))) (length (now (vector .entry))) (length (now (invalid .entry)))))
+        × (now (tek .exit) ≡ overlay (now (tek .entry)) (openedWith h bad len s direction address said number (length (now (tek .entry))) (length (now (vector .entry))) (length (now (invalid .entry))) .out .tek))
+        × (now (vector .exit) ≡ overlay (now (vector .entry)) (openedWith h bad len s direction address said number (length (now (tek .entry))) (length (now (vector .entry))) (length (now (invalid .entry))) .out .vector))
+        × (now (invalid .exit) ≡ overlay (now (invalid .entry)) (openedWith h bad len s direction address said number (length (now (tek .entry))) (length (now (vector .entry))) (length (now (invalid .entry))) .invalid)) ⌝ }
+{
+    let a = open_answer(
+        h,
+        bad,
+        len,
+        s,
+        direction,
+        address,
+        said,
+        number,
+        tek.len(),
+        vector.len(),
+        invalid.len(),
+    );
+    open_by(a, h, s, address, said, number, tek, vector, invalid)
+}

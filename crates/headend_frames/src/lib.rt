@@ -1,0 +1,2 @@
+// Frames at the head-end on values: sealing one for a modem and opening one from it, with what the search over the records found. Crate `headend` has the calls, over lent records.
+pub mod frames;

@@ -1,0 +1,3 @@
+pub mod PassedLaws
+pub mod ListingLaws
+pub mod LimitsLaws

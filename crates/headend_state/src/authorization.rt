@@ -1,0 +1,45 @@
+// The authorization keys of one modem: which are active, and when one is made.
+ghost use mathlib.Core.Path.{_≡_};
+ghost use Rattle.headend_state.specs.Authorization.{Countable, isActive, keysFor, newestNumber};
+use crate::state::AuthKeys;
+use keys::numbers::AkNumber;
+use keys::numbers::ak_after;
+use keys::numbers::same_ak;
+
+// Whether a key of that number is active.
+pub fn is_active(clock: u64, k: AuthKeys, number: AkNumber) -> bool
+    ensures { λ r. ⌜ r ≡ isActive clock number k ⌝ }
+{
+    ((clock < k.older) & same_ak(ak_after(k.next, 14), number))
+        | ((clock < k.newer) & same_ak(ak_after(k.next, 15), number))
+}
+
+// The number of the newest key.
+pub fn newest(k: AuthKeys) -> AkNumber
+    ensures { λ r. ⌜ r ≡ newestNumber k ⌝ }
+{
+    ak_after(k.next, 15)
+}
+
+// The keys once an Authorization Request is granted: one is made unless two are active.
+pub fn granted(life: u64, clock: u64, k: AuthKeys) -> AuthKeys
+    requires { ⌜ Countable life clock k ⌝ }
+    ensures { λ r. ⌜ r ≡ keysFor life clock k ⌝ }
+{
+    if clock < k.older {
+        return k;
+    }
+    let next = ak_after(k.next, 1);
+    if clock < k.newer {
+        return AuthKeys {
+            next: next,
+            older: k.newer,
+            newer: k.newer + life,
+        };
+    }
+    AuthKeys {
+        next: next,
+        older: k.newer,
+        newer: clock + life,
+    }
+}

@@ -1,0 +1,99 @@
+// The head-end's state, and what a call hands back.
+ghost use mathlib.Core.Path.{_≡_};
+ghost use Rattle.keys.specs.Refusal.{answerNumber};
+ghost use Rattle.headend_state.specs.State.{noEntry, freshOf, answeredCall};
+use association::listing::Listing;
+use association::listing::no_listing;
+use keys::numbers::AkNumber;
+use keys::refusal::Answer;
+use keys::refusal::answer_number;
+use keys::settings::Settings;
+
+// The authorization keys of a modem: the number that the next one gets, and the deadlines of the last two made, 0 for none.
+#[repr(C)]
+pub struct AuthKeys {
+    pub next: AkNumber,
+    pub older: u64,
+    pub newer: u64,
+}
+
+// What is kept of a listed modem; `allowed` is 1, or 0 for a barred one.
+#[repr(C)]
+pub struct Entry {
+    pub address: u64,
+    pub allowed: u8,
+    pub listing: Listing,
+    pub keys: AuthKeys,
+}
+
+// Of the entries the first `modems` are in use, of the lent records the first `used`; `taken` and `refused` count frames.
+#[repr(C)]
+pub struct HeadEnd {
+    pub settings: Settings,
+    pub clock: u64,
+    pub modems: usize,
+    pub entries: [Entry; 16],
+    pub used: usize,
+    pub taken: u64,
+    pub refused: u64,
+}
+
+// What a call hands back: the answer, the head-end after it, and how many octets were written.
+pub struct Called {
+    pub answer: Answer,
+    pub state: HeadEnd,
+    pub count: usize,
+}
+
+// An entry that is not in use.
+pub fn no_entry() -> Entry
+    ensures { λ r. ⌜ r ≡ noEntry ⌝ }
+{
+    let listing = no_listing();
+    let keys = AuthKeys {
+        next: AkNumber(0),
+        older: 0,
+        newer: 0,
+    };
+    Entry {
+        address: 0,
+        allowed: 0,
+        listing: listing,
+        keys: keys,
+    }
+}
+
+// A head-end at clock 0 that has listed no modem.
+pub fn fresh(settings: Settings) -> HeadEnd
+    ensures { λ r. ⌜ r ≡ freshOf settings ⌝ }
+{
+    let e = no_entry();
+    HeadEnd {
+        settings: settings,
+        clock: 0,
+        modems: 0,
+        entries: [e; 16],
+        used: 0,
+        taken: 0,
+        refused: 0,
+    }
+}
+
+// An answer with a state, where nothing is written.
+pub fn answered(h: HeadEnd, a: Answer) -> Called
+    ensures { λ c. ⌜ c ≡ answeredCall a h ⌝ }
+{
+    Called {
+        answer: a,
+        state: h,
+        count: 0,
+    }
+}
+
+// Document 01's number of a call's answer.
+pub fn called_number(c: Called) -> u8
+    ensures { λ n. ⌜ n ≡ answerNumber (c .answer) ⌝ }
+{
+    let a = c.answer;
+    answer_number(a)
+}

@@ -1,9 +1,0 @@
--- `headend_steps::search::records_fit` meets its contract.
-use Rattle.headend_steps.proofs.search.records_fit.Statement.{statement}
-use Rattle.headend_steps.proofs.search.records_fit.Tie as tie
-
-returns : tie.Need-returns
-returns c = cc
-
-pub records-fit-spec : {M : Type 1} → statement M
-records-fit-spec = tie.close (tie.spec returns)

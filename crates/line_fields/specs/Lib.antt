@@ -1,0 +1,4 @@
+pub mod Fields
+pub mod Hex
+pub mod Listing
+pub mod Places

@@ -1,0 +1,2 @@
+// What the messages of the authorization machine do to the modem. Each contract equates the result with a definition of specs/Events.antt.
+pub mod events;

@@ -1,0 +1,315 @@
+-- The calls about frames by what their parts found: the SAID's machine, the answer, and the octets written.
+use mathlib.Core.Path.{_≡_, refl, sym, _∙_, ap, subst}
+use mathlib.Core.Bool.{Bool, true, false, _&&_, _||_, cond}
+use mathlib.Core.List.{List, []}
+use Prim.Native.Nat.{ℕ, _≤_, _<_}
+use native.Mathlib.Omega.{arith}
+use lib.Dec.{leb, ltb, eqb}
+use lib.ListN.{length, take}
+use borrow.Author.Tests.{lt-ltb, le-ltb, ltb-true, leb-true, eq-eqb, ne-eqb}
+use Rattle.keys.specs.declared.numbers.TekNumber.{TekNumber}
+use Rattle.keys.specs.declared.frame.Opening.{Opening}
+use Rattle.keys.specs.declared.refusal.Answer.{Answer}
+use Rattle.keys.specs.declared.refusal.Answer.the-variants.{Done, Refused}
+use Rattle.keys.specs.declared.refusal.Refusal.{Refusal}
+use Rattle.keys.specs.declared.refusal.Refusal.the-variants.{OutOfLimits, WrongLength, UnknownSaid, NoKeyForFrame, NoKeyToSeal}
+use Rattle.keys.specs.Numbers.{tekInRange}
+use Rattle.keys.specs.Octets.{overlay}
+use Rattle.keys.specs.Refusal.{answerNumber, isDone}
+use Rattle.keys.specs.Suites.{widthOf}
+use Rattle.keys.specs.Frame.{serves, openingOf}
+use Rattle.keys.specs.Sealing.{KeyOut, Sealed, sealedFor, openedBy, oneMore, sealCalled}
+use Rattle.keys.proofs.TestLaws.{both}
+use Rattle.keys.proofs.AnswerLaws.{is-done, number-done}
+use Rattle.wire.specs.Fields.{noParams}
+use Rattle.machines.specs.declared.tek.Pair.{Pair}
+use Rattle.machines.specs.declared.tek.Tek.{Tek}
+use Rattle.modem_steps.specs.declared.state.Modem.{Modem}
+use Rattle.modem_steps.specs.declared.state.Work.{Work}
+use Rattle.modem_steps.specs.State.{noTek, slotAt, starting}
+use Rattle.modem_steps.specs.Slots.{slotOfSaid, told}
+use Rattle.modem_receive.specs.Receive.{isKnown}
+use Rattle.keys.specs.declared.sealing.SealedCall.{SealedCall}
+use Rattle.modem_frames.specs.declared.frames.OpenedCall.{OpenedCall}
+use Rattle.modem_limits.specs.Limits.{modemFits}
+use Rattle.modem.specs.Messages.{outOctets, OutFits}
+use Rattle.modem_frames.specs.Frames.{machineOf, canSeal, sealAnswer, sealOf, canOpen, openAnswer, withCounts, countedBy, ModemOpened, missed, openedFor, openOf, pairSeals, pairOpens, machineOut, sealAsked, openAsked}
+use Rattle.modem_frames.specs.FrameCalled.{openedCall, openCalled, knownMachine}
+use Rattle.modem.proofs.OutLaws.{out-wider}
+use Rattle.modem.proofs.SentLaws.{sends-none, told-sends}
+use Rattle.modem.proofs.SentFits.{fits-sayable}
+use Rattle.modem_frames.proofs.FrameLaws.{frameIn, slicesLong, isHere}
+
+-- ---- the machine of a SAID
+module _ (m : Modem) (said i : ℕ) (ei : i ≡ slotOfSaid m said) where
+  pub machine-none : 4 ≤ i → noTek ≡ knownMachine m said
+  unfolding knownMachine
+  machine-none over = let past : 4 ≤ slotOfSaid m said = omega (arith, ei, over) in simp (le-ltb (slotOfSaid m said) 4 past)
+
+  pub machine-is : i < 4 → slotAt m i ≡ knownMachine m said
+  unfolding knownMachine
+  machine-is small =
+      let inside : slotOfSaid m said < 4 = omega (arith, ei, small) in
+      ap (slotAt m) ei ∙ simp (lt-ltb (slotOfSaid m said) 4 inside)
+
+pub machine-known : (m : Modem) (said : ℕ) → isKnown m said ≡ true → knownMachine m said ≡ machineOf m said
+unfolding knownMachine
+machine-known m said e = simp e
+
+-- ---- the answers do not depend on the machine of a SAID that is not known
+after-known : (b : Bool) (f : Tek → Bool) (t u : Tek) (q r : Refusal)
+    → cond b (cond (f (cond b t u)) Done (Refused q)) (Refused r) ≡ cond b (cond (f t) Done (Refused q)) (Refused r)
+after-known true f t u q r = refl
+after-known false f t u q r = refl
+
+after-here : (a b : Bool) (f : Tek → Bool) (t u : Tek) (q r : Refusal)
+    → cond (a && b) (cond (f (cond b t u)) Done (Refused q)) (Refused r) ≡ cond (a && b) (cond (f t) Done (Refused q)) (Refused r)
+after-here true b f t u q r = after-known b f t u q r
+after-here false b f t u q r = refl
+
+pub seal-asked : (m : Modem) (said tek vector : ℕ) → sealAsked m said (knownMachine m said) tek vector ≡ sealAnswer m said tek vector
+unfolding sealAsked sealAnswer knownMachine
+seal-asked m said tek vector =
+    ap (λ (a : Answer). cond (modemFits m && leb said 16383) (cond (leb 16 tek && leb 16 vector) a (Refused WrongLength)) (Refused OutOfLimits))
+    (after-known (isKnown m said) (λ t. pairSeals (m .clock) (t .pair)) (machineOf m said) noTek NoKeyToSeal UnknownSaid)
+
+pub open-asked : (m : Modem) (direction address said : ℕ) (number : TekNumber) (tek vector lent : ℕ)
+    → openAsked m direction address said number (knownMachine m said) tek vector lent ≡ openAnswer m direction address said number tek vector lent
+unfolding openAsked openAnswer knownMachine
+open-asked m direction address said number tek vector lent =
+    ap (λ (a : Answer). cond (modemFits m && eqb direction 1 && ltb address 281474976710656 && leb said 16383 && tekInRange number)
+    (cond (leb 16 tek && leb 16 vector && leb 216 lent) a (Refused WrongLength)) (Refused OutOfLimits))
+    (after-here (eqb address (m .address)) (isKnown m said) (λ t. pairOpens (m .clock) number (t .pair)) (machineOf m said) noTek NoKeyForFrame UnknownSaid)
+
+-- ---- question 13, and the counts
+pub opens-by : (clock : ℕ) (number : TekNumber) (p : Pair) (a b : Bool) → a ≡ serves clock number (p .older) → b ≡ serves clock number (p .newer)
+    → (eqb (p .held) 1 && (a || b)) ≡ pairOpens clock number p
+opens-by clock number p a b ea eb =
+    ap (λ (x : Bool). eqb (p .held) 1 && (x || b)) ea ∙ ap (λ (x : Bool). eqb (p .held) 1 && (serves clock number (p .older) || x)) eb
+
+module _ (n : ℕ) (m : Modem) (k : ℕ) where
+  pub counted-taken : n ≡ 0 → k ≡ oneMore (m .taken) → withCounts m k (m .refused) ≡ countedBy n m
+  unfolding countedBy
+  counted-taken e ek = rw (eq-eqb n 0 e) (ap (λ (x : ℕ). withCounts m x (m .refused)) ek)
+
+  pub counted-refused : (n ≡ 0 → ⊥) → (eqb n 10 || eqb n 13) ≡ true → k ≡ oneMore (m .refused) → withCounts m (m .taken) k ≡ countedBy n m
+  unfolding countedBy
+  counted-refused e is ek = rw (ne-eqb n 0 e, is) (ap (λ (x : ℕ). withCounts m (m .taken) x) ek)
+
+pub counted-not : (n : ℕ) (m : Modem) → (n ≡ 0 → ⊥) → (eqb n 10 || eqb n 13) ≡ false → m ≡ countedBy n m
+unfolding countedBy
+counted-not n m e is = rw (ne-eqb n 0 e, is) refl
+
+-- ---- what the answers say of the four questions
+abbrev asks : Refusal → Bool → Bool → Bool → Bool → Answer
+asks last a b c d = cond a (cond b (cond c (cond d Done (Refused last)) (Refused UnknownSaid)) (Refused WrongLength)) (Refused OutOfLimits)
+
+asks-done : (last : Refusal) (a b c d : Bool) → asks last a b c d ≡ Done → (a ≡ true) × (b ≡ true) × (c ≡ true)
+asks-done last false b c d e = let z : _≡_ {A = ℕ} 0 1 = cc in absurd (omega arith)
+asks-done last true false c d e = let z : _≡_ {A = ℕ} 0 1 = cc in absurd (omega arith)
+asks-done last true true false d e = let z : _≡_ {A = ℕ} 0 1 = cc in absurd (omega arith)
+asks-done last true true true d e = (refl, refl, refl)
+
+asks-13 : (last : Refusal) (a b c d : Bool) → answerNumber (asks last a b c d) ≡ 13 → (a ≡ true) × (b ≡ true) × (c ≡ true)
+asks-13 last false b c d e = absurd (omega arith)
+asks-13 last true false c d e = absurd (omega arith)
+asks-13 last true true false d e = absurd (omega arith)
+asks-13 last true true true d e = (refl, refl, refl)
+
+-- question 1 says that the modem is within its limits, question 2 how long the slices are
+frame-fits : (m : Modem) (direction address said : ℕ) (number : TekNumber) → frameIn m direction address said number ≡ true → modemFits m ≡ true
+frame-fits m direction address said number e =
+    let s₄ = both (modemFits m && eqb direction 1 && ltb address 281474976710656 && leb said 16383) (tekInRange number) e in
+    let s₃ = both (modemFits m && eqb direction 1 && ltb address 281474976710656) (leb said 16383) (s₄ .0) in
+    let s₂ = both (modemFits m && eqb direction 1) (ltb address 281474976710656) (s₃ .0) in
+    both (modemFits m) (eqb direction 1) (s₂ .0) .0
+
+slices-long : (tek vector lent : ℕ) → slicesLong tek vector lent ≡ true → (16 ≤ tek) × (16 ≤ vector) × (216 ≤ lent)
+slices-long tek vector lent e =
+    let s₂ = both (leb 16 tek && leb 16 vector) (leb 216 lent) e in
+    let s₁ = both (leb 16 tek) (leb 16 vector) (s₂ .0) in
+    (leb-true 16 tek (s₁ .0), leb-true 16 vector (s₁ .1), leb-true 216 lent (s₂ .1))
+
+-- ---- sealing
+abbrev sealedBy : Answer → Tek → Sealed
+sealedBy a t = sealedFor a (widthOf (t .suite)) (t .pair .newer)
+
+module _ (m : Modem) (said : ℕ) (tek vector : List ℕ) where
+  -- what the call hands back, and what the two slices hold after it
+  abbrev SealMeets : Sealed → SealedCall → List ℕ → List ℕ → Type 0
+  SealMeets s c tek₁ vector₁ = (c ≡ sealCalled s) × ((tek₁ ≡ overlay tek (s .out .tek)) × (vector₁ ≡ overlay vector (s .out .vector)))
+
+  no-seal : (a : Answer) (t : Tek) → isDone a ≡ false
+      → SealMeets (sealedBy a t) (record { answer = a; number = record { 0 = 0 }; width = 0 }) tek vector
+  no-seal Done t e = let z : _≡_ {A = ℕ} 0 1 = cc in absurd (omega arith)
+  no-seal (Refused r) t e = (refl, (refl, refl))
+
+  module _ (t : Tek) (a : Answer) (et : t ≡ knownMachine m said) (ea : a ≡ sealAsked m said t (length tek) (length vector)) where
+    seal-answer : a ≡ sealAnswer m said (length tek) (length vector)
+    seal-answer = ea ∙ ap (λ (u : Tek). sealAsked m said u (length tek) (length vector)) et ∙ seal-asked m said (length tek) (length vector)
+
+    pub seal-refused : isDone a ≡ false
+        → SealMeets (sealOf m said (length tek) (length vector)) (record { answer = a; number = record { 0 = 0 }; width = 0 }) tek vector
+    unfolding sealOf
+    seal-refused e =
+        subst (λ (b : Answer). SealMeets (sealedBy b (machineOf m said)) (record { answer = a; number = record { 0 = 0 }; width = 0 }) tek vector) seal-answer
+        (no-seal a (machineOf m said) e)
+
+    module _ (e : isDone a ≡ true) where
+      seal-met : (modemFits m && leb said 16383 ≡ true) × (leb 16 (length tek) && leb 16 (length vector) ≡ true) × (isKnown m said ≡ true)
+      unfolding sealAnswer sealAsked
+      seal-met =
+          asks-done NoKeyToSeal (modemFits m && leb said 16383) (leb 16 (length tek) && leb 16 (length vector)) (isKnown m said) (canSeal m said)
+          (sym seal-answer ∙ is-done a e)
+
+      pub seal-long : (16 ≤ length tek) × (16 ≤ length vector)
+      seal-long =
+          let b = both (leb 16 (length tek)) (leb 16 (length vector)) (seal-met .1) in
+          (leb-true 16 (length tek) (b .0), leb-true 16 (length vector) (b .1))
+
+      seal-same : sealedBy Done t ≡ sealOf m said (length tek) (length vector)
+      unfolding sealOf
+      seal-same =
+          ap (sealedBy Done) (et ∙ machine-known m said (seal-met .2))
+          ∙ ap (λ (b : Answer). sealedBy b (machineOf m said)) (sym (is-done a e) ∙ seal-answer)
+
+      pub seal-done : (w n : ℕ) (tek₁ vector₁ : List ℕ) → w ≡ widthOf (t .suite) → n ≡ length (take w (t .pair .newer .tek))
+          → tek₁ ≡ overlay tek (take w (t .pair .newer .tek)) → vector₁ ≡ overlay vector (take w (t .pair .newer .vector))
+          → SealMeets (sealOf m said (length tek) (length vector)) (record { answer = a; number = t .pair .newer .number; width = n }) tek₁ vector₁
+      seal-done w n tek₁ vector₁ ew en e₁ e₂ =
+          let k = t .pair .newer in
+          let wide : n ≡ length (take (widthOf (t .suite)) (k .tek)) = en ∙ ap (λ (x : ℕ). length (take x (k .tek))) ew in (
+            ap (λ (b : Answer). record { answer = b; number = k .number; width = n }) (is-done a e)
+                ∙ ap (λ (x : ℕ). record { answer = Done; number = k .number; width = x }) wide ∙ ap sealCalled seal-same,
+            (
+              e₁ ∙ ap (λ (x : ℕ). overlay tek (take x (k .tek))) ew ∙ ap (λ (s : Sealed). overlay tek (s .out .tek)) seal-same,
+              e₂ ∙ ap (λ (x : ℕ). overlay vector (take x (k .vector))) ew ∙ ap (λ (s : Sealed). overlay vector (s .out .vector)) seal-same,
+            ),
+          )
+
+-- ---- opening: event 5 at the SAID's slot
+module _ (m : Modem) (said : ℕ) where
+  pub told-slot : (v r : Work) (i : ℕ) → v ≡ starting m → i ≡ slotOfSaid m said → r ≡ told v i 5 → r ≡ told (starting m) (slotOfSaid m said) 5
+  told-slot v r i ev ei e = e ∙ ap (λ (x : Work). told x i 5) ev ∙ ap (λ (k : ℕ). told (starting m) k 5) ei
+
+  pub told-out : modemFits m ≡ true → isKnown m said ≡ true → OutFits (told (starting m) (slotOfSaid m said) 5 .out) 6
+  told-out fits known =
+      out-wider (told (starting m) (slotOfSaid m said) 5 .out) 1 6 (omega arith)
+      (told-sends (starting m) (slotOfSaid m said) 5 noParams noParams 0 (ltb-true (slotOfSaid m said) 4 known) (omega arith)
+      (sends-none m (fits-sayable m fits)) .out)
+
+  pub missing-done : (a : Answer) (out : List ℕ) (r : Work) (next : Modem) (n : ℕ) (c : OpenedCall) (out₁ : List ℕ)
+      → r ≡ told (starting m) (slotOfSaid m said) 5 → next ≡ countedBy 13 (r .modem) → n ≡ length (outOctets (r .out)) → c ≡ openedCall a next 0 n
+      → out₁ ≡ overlay out (outOctets (r .out))
+      → (c ≡ openCalled (missed true a m said)) × (out₁ ≡ overlay out (missed true a m said .sent))
+  missing-done a out r next n c out₁ er em en ec eo = (
+    ec ∙ ap (λ (x : Modem). openedCall a x 0 n) (em ∙ ap (λ (x : Work). countedBy 13 (x .modem)) er)
+        ∙ ap (λ (x : ℕ). openedCall a (countedBy 13 (told (starting m) (slotOfSaid m said) 5 .modem)) 0 x)
+        (en ∙ ap (λ (x : Work). length (outOctets (x .out))) er),
+    eo ∙ ap (λ (x : Work). overlay out (outOctets (x .out))) er,
+  )
+
+  opened-13 : (number : TekNumber) (a : Answer) → answerNumber a ≡ 13 → missed true a m said ≡ openedFor a m said number
+  opened-13 number Done e = absurd (omega arith)
+  opened-13 number (Refused r) e = ap (λ (b : Bool). missed b (Refused r) m said) (sym (eq-eqb (answerNumber (Refused r)) 13 e))
+
+  opened-other : (number : TekNumber) (a : Answer) → (answerNumber a ≡ 13 → ⊥) → (answerNumber a ≡ 0 → ⊥) → missed false a m said ≡ openedFor a m said number
+  opened-other number Done e z = absurd (z refl)
+  opened-other number (Refused r) e z = ap (λ (b : Bool). missed b (Refused r) m said) (sym (ne-eqb (answerNumber (Refused r)) 13 e))
+
+-- ---- the octets of whichever key opens
+pub opened-by : (clock : ℕ) (number : TekNumber) (t : Tek) (o q : Opening) (w : ℕ) (tek vector : List ℕ) (n : ℕ) (tek₁ vector₁ : List ℕ)
+    → o ≡ openingOf clock number (t .pair .older) (t .pair .newer) → o ≡ q → w ≡ widthOf (t .suite)
+    → n ≡ length (openedBy q w (t .pair .older) (t .pair .newer) .tek)
+    → tek₁ ≡ overlay tek (openedBy q w (t .pair .older) (t .pair .newer) .tek)
+    → vector₁ ≡ overlay vector (openedBy q w (t .pair .older) (t .pair .newer) .vector)
+    → (n ≡ length (machineOut clock number t .tek))
+    × ((tek₁ ≡ overlay tek (machineOut clock number t .tek)) × (vector₁ ≡ overlay vector (machineOut clock number t .vector)))
+opened-by clock number t o q w tek vector n tek₁ vector₁ eo e ew en e₁ e₂ =
+    let p = t .pair in
+    let by : openedBy q w (p .older) (p .newer) ≡ machineOut clock number t =
+    ap (λ (x : Opening). openedBy x w (p .older) (p .newer)) (sym e ∙ eo)
+    ∙ ap (λ (x : ℕ). openedBy (openingOf clock number (p .older) (p .newer)) x (p .older) (p .newer)) ew in (
+      en ∙ ap (λ (x : KeyOut). length (x .tek)) by,
+      (e₁ ∙ ap (λ (x : KeyOut). overlay tek (x .tek)) by, e₂ ∙ ap (λ (x : KeyOut). overlay vector (x .vector)) by),
+    )
+
+-- ---- opening: the call
+abbrev openedWith : Modem → TekNumber → Tek → ModemOpened
+openedWith m number t = record { answer = Done; modem = countedBy 0 m; out = machineOut (m .clock) number t; sent = [] }
+
+module _ (m : Modem) (direction address said : ℕ) (number : TekNumber) (tek vector out : List ℕ) where
+  abbrev OpenMeets : ModemOpened → OpenedCall → List ℕ → List ℕ → List ℕ → Type 0
+  OpenMeets o c tek₁ vector₁ out₁ =
+      (c ≡ openCalled o) × ((tek₁ ≡ overlay tek (o .out .tek)) × ((vector₁ ≡ overlay vector (o .out .vector)) × (out₁ ≡ overlay out (o .sent))))
+
+  abbrev opening : ModemOpened
+  opening = openOf m direction address said number (length tek) (length vector) (length out)
+
+  module _ (t : Tek) (a : Answer) (n : ℕ) (et : t ≡ knownMachine m said)
+      (ea : a ≡ openAsked m direction address said number t (length tek) (length vector) (length out)) (en : n ≡ answerNumber a) where
+    open-answer : a ≡ openAnswer m direction address said number (length tek) (length vector) (length out)
+    open-answer =
+        ea ∙ ap (λ (u : Tek). openAsked m direction address said number u (length tek) (length vector) (length out)) et
+        ∙ open-asked m direction address said number (length tek) (length vector) (length out)
+
+    open-for : openedFor a m said number ≡ opening
+    unfolding openOf
+    open-for = ap (λ (b : Answer). openedFor b m said number) open-answer
+
+    -- refused with 13
+    module _ (is : n ≡ 13) where
+      open-met : (frameIn m direction address said number ≡ true) × (slicesLong (length tek) (length vector) (length out) ≡ true) × (isHere m address said ≡ true)
+      unfolding openAnswer openAsked
+      open-met =
+          asks-13 NoKeyForFrame (frameIn m direction address said number) (slicesLong (length tek) (length vector) (length out)) (isHere m address said)
+          (canOpen m said number) (ap answerNumber (sym open-answer) ∙ sym en ∙ is)
+
+      pub missing-ready : (modemFits m ≡ true) × ((isKnown m said ≡ true) × (216 ≤ length out))
+      missing-ready = (
+        frame-fits m direction address said number (open-met .0),
+        (both (eqb address (m .address)) (isKnown m said) (open-met .2) .1, slices-long (length tek) (length vector) (length out) (open-met .1) .2),
+      )
+
+      pub open-missed : (c : OpenedCall) (out₁ : List ℕ) → c ≡ openCalled (missed true a m said) → out₁ ≡ overlay out (missed true a m said .sent)
+          → OpenMeets opening c tek vector out₁
+      open-missed c out₁ ec eo =
+          subst (λ (o : ModemOpened). OpenMeets o c tek vector out₁) (opened-13 m said number a (sym en ∙ is) ∙ open-for) (ec, (refl, (refl, eo)))
+
+    -- any other refusal
+    pub open-refused : (n ≡ 13 → ⊥) → (n ≡ 0 → ⊥) → (next : Modem) (c : OpenedCall) → next ≡ countedBy n m → c ≡ openedCall a next 0 0
+        → OpenMeets opening c tek vector out
+    open-refused not-13 not-0 next c ex ec =
+        subst (λ (o : ModemOpened). OpenMeets o c tek vector out) (opened-other m said number a (λ e. not-13 (en ∙ e)) (λ e. not-0 (en ∙ e)) ∙ open-for)
+        (ec ∙ ap (λ (x : Modem). openedCall a x 0 0) (ex ∙ ap (λ (k : ℕ). countedBy k m) en), (refl, (refl, refl)))
+
+    -- opened
+    module _ (is : n ≡ 0) where
+      open-is : a ≡ Done
+      open-is = number-done a (sym en ∙ is)
+
+      open-done-met : (frameIn m direction address said number ≡ true) × (slicesLong (length tek) (length vector) (length out) ≡ true) × (isHere m address said ≡ true)
+      unfolding openAnswer openAsked
+      open-done-met =
+          asks-done NoKeyForFrame (frameIn m direction address said number) (slicesLong (length tek) (length vector) (length out)) (isHere m address said)
+          (canOpen m said number) (sym open-answer ∙ open-is)
+
+      pub open-long : (16 ≤ length tek) × (16 ≤ length vector)
+      open-long = let l = slices-long (length tek) (length vector) (length out) (open-done-met .1) in (l .0, l .1)
+
+      open-same : openedWith m number t ≡ opening
+      open-same =
+          ap (openedWith m number) (et ∙ machine-known m said (both (eqb address (m .address)) (isKnown m said) (open-done-met .2) .1))
+          ∙ ap (λ (b : Answer). openedFor b m said number) (sym open-is) ∙ open-for
+
+      pub open-done : (next : Modem) (k : ℕ) (c : OpenedCall) (tek₁ vector₁ : List ℕ) → next ≡ countedBy n m
+          → k ≡ length (machineOut (m .clock) number t .tek) → c ≡ openedCall a next k 0
+          → tek₁ ≡ overlay tek (machineOut (m .clock) number t .tek) → vector₁ ≡ overlay vector (machineOut (m .clock) number t .vector)
+          → OpenMeets opening c tek₁ vector₁ out
+      open-done next k c tek₁ vector₁ ex ek ec e₁ e₂ =
+          subst (λ (r : ModemOpened). OpenMeets r c tek₁ vector₁ out) open-same (
+            ec ∙ ap (λ (b : Answer). openedCall b next k 0) open-is
+                ∙ ap (λ (x : Modem). openedCall Done x k 0) (ex ∙ ap (λ (j : ℕ). countedBy j m) is)
+                ∙ ap (λ (x : ℕ). openedCall Done (countedBy 0 m) x 0) ek,
+            (e₁, (e₂, refl)),
+          )

@@ -1,0 +1,59 @@
+-- `modem_frames::frames::missing` meets its contract.
+use Rattle.modem_frames.proofs.FrameCalledLaws.{told-slot, told-out, missing-done}
+use Rattle.modem.proofs.AnswerLaws.{out-there}
+use Rattle.modem.proofs.AskedLaws.{fits-ready}
+use Rattle.modem_steps.proofs.ReadyLaws.{started-ready}
+use Rattle.modem_steps.specs.Slots.{slotOfSaid, told}
+use Rattle.modem_steps.specs.State.{starting}
+use borrow.Author.Tests.{ltb-true}
+use native.Mathlib.Omega.{arith}
+use borrow.Author.Needs.{needs}
+use Rattle.modem_frames.proofs.frames.missing.Statement.{statement}
+use Rattle.modem_frames.proofs.frames.missing.Tie as tie
+
+slot-of-said-requires : tie.Need-slot-of-said-requires
+slot-of-said-requires c κs = search needs
+
+start-requires : tie.Need-start-requires
+start-requires c κs = search needs
+
+told-requires : tie.Need-told-requires
+told-requires c κs =
+    let x = c .before .before .before .args in (
+      omega (arith, c .before .slot-of-said .ensures .0, ltb-true (slotOfSaid (x .m) (x .said)) 4 (c .before .before .before .pre .1 .0)),
+      started-ready (x .m) (c .start .result) (c .start .ensures) (fits-ready (x .m) (c .before .before .before .pre .0)),
+    )
+
+put-out-requires : tie.Need-put-out-requires
+put-out-requires c κs =
+    let x = c .before .before .before .before .before .before .before .args in
+    let is = told-slot (x .m) (x .said) (c .before .before .before .before .start .result) (c .before .before .before .told .result) (c .before .before .before .before .before .slot-of-said .result) (c .before .before .before .before .start .ensures) (c .before .before .before .before .before .slot-of-said .ensures .0) (c .before .before .before .told .ensures .0) in
+    (out-there (c .before .before .before .told .result) (told (starting (x .m)) (slotOfSaid (x .m) (x .said)) 5) is (told-out (x .m) (x .said) (c .before .before .before .before .before .before .before .pre .0) (c .before .before .before .before .before .before .before .pre .1 .0)), c .before .before .before .before .before .before .before .pre .1 .1)
+
+counted-requires : tie.Need-counted-requires
+counted-requires c κs = search needs
+
+opened-call-requires : tie.Need-opened-call-requires
+opened-call-requires c κs = search needs
+
+same-length : tie.Need-same-length
+same-length c = search needs
+
+returns : tie.Need-returns
+returns c =
+    let x = c .before .before .before .before .before .before .before .before .before .before .before .before .args in
+    let is = told-slot (x .m) (x .said) (c .before .before .before .before .before .before .before .before .before .start .result) (c .before .before .before .before .before .before .before .before .told .result) (c .before .before .before .before .before .before .before .before .before .before .slot-of-said .result) (c .before .before .before .before .before .before .before .before .before .start .ensures) (c .before .before .before .before .before .before .before .before .before .before .slot-of-said .ensures .0) (c .before .before .before .before .before .before .before .before .told .ensures .0) in
+    missing-done (x .m) (x .said) (x .a) (x .out .now) (c .before .before .before .before .before .before .before .before .told .result) (c .before .counted .result) (c .before .before .before .before .put-out .result) (c .opened-call .result) _ is (c .before .counted .ensures) (c .before .before .before .before .put-out .ensures .1) (c .opened-call .ensures) (c .before .before .before .before .put-out .ensures .0)
+
+pub missing-spec : {M : Type 1} → statement M
+missing-spec =
+    tie.close
+    (tie.spec
+    slot-of-said-requires
+    start-requires
+    told-requires
+    put-out-requires
+    counted-requires
+    opened-call-requires
+    same-length
+    returns)

@@ -1,0 +1,47 @@
+-- `modem_frames::frames::open_answer` meets its contract.
+use Rattle.modem_frames.specs.Frames.{openAsked}
+use borrow.Author.Needs.{needs}
+use Rattle.modem_frames.proofs.frames.open_answer.Statement.{statement}
+use Rattle.modem_frames.proofs.frames.open_answer.Tie as tie
+
+modem-fits-requires : tie.Need-modem-fits-requires
+modem-fits-requires c κs = search needs
+
+tek-in-range-requires : tie.Need-tek-in-range-requires
+tek-in-range-requires c κs = search needs
+
+is-known-requires : tie.Need-is-known-requires
+is-known-requires c κs = search needs
+
+can-open-requires : tie.Need-can-open-requires
+can-open-requires c κs = search needs
+
+ask-requires : tie.Need-ask-requires
+ask-requires c κs = search needs
+
+ask-requires-2 : tie.Need-ask-requires-2
+ask-requires-2 c κs = search needs
+
+ask-requires-3 : tie.Need-ask-requires-3
+ask-requires-3 c κs = search needs
+
+ask-requires-4 : tie.Need-ask-requires-4
+ask-requires-4 c κs = search needs
+
+returns : tie.Need-returns
+unfolding openAsked
+returns c = simp (c .ask4 .ensures, c .before .ask3 .ensures, c .before .before .ask2 .ensures, c .before .before .before .ask .ensures, c .before .before .before .before .can-open .ensures, c .before .before .before .before .before .is-known .ensures, c .before .before .before .before .before .before .before .tek-in-range .ensures, c .before .before .before .before .before .before .before .before .modem-fits .ensures)
+
+pub open-answer-spec : {M : Type 1} → statement M
+open-answer-spec =
+    tie.close
+    (tie.spec
+    modem-fits-requires
+    tek-in-range-requires
+    is-known-requires
+    can-open-requires
+    ask-requires
+    ask-requires-2
+    ask-requires-3
+    ask-requires-4
+    returns)

@@ -1,0 +1,133 @@
+-- Frames at the modem (document 01, "Modem: TEK machine", questions 1, 2, 10, 13 and 14).
+use mathlib.Core.Bool.{Bool, cond, _&&_, _||_}
+use mathlib.Core.List.{List, [], _∷_}
+use Prim.Native.Nat.{ℕ}
+use lib.Dec.{leb, ltb, eqb}
+use Rattle.keys.specs.Addresses.{saidFits, addressFits}
+use Rattle.keys.specs.declared.numbers.TekNumber.{TekNumber}
+use Rattle.keys.specs.declared.refusal.Answer.{Answer}
+use Rattle.keys.specs.declared.refusal.Answer.the-variants.{Done, Refused}
+use Rattle.keys.specs.declared.refusal.Refusal.the-variants.{OutOfLimits, WrongLength, UnknownSaid, NoKeyForFrame, NoKeyToSeal}
+use Rattle.keys.specs.Numbers.{tekInRange}
+use Rattle.keys.specs.Suites.{widthOf}
+use Rattle.keys.specs.Questions.{firstNo}
+use Rattle.keys.specs.Refusal.{answerNumber}
+use Rattle.keys.specs.Frame.{serves, openingOf}
+use Rattle.keys.specs.Sealing.{KeyOut, noOut, Sealed, sealedFor, openedBy, oneMore, countedAs}
+use Rattle.machines.specs.declared.tek.Pair.{Pair}
+use Rattle.machines.specs.declared.tek.Tek.{Tek}
+use Rattle.modem_steps.specs.declared.state.Modem.{Modem}
+use Rattle.modem_steps.specs.State.{slotAt, starting}
+use Rattle.modem_steps.specs.Slots.{slotOfSaid, told}
+use Rattle.modem_receive.specs.Receive.{isKnown}
+use Rattle.modem_limits.specs.Limits.{modemFits}
+use Rattle.modem.specs.Messages.{outOctets}
+
+-- The machine of a SAID
+abbrev pub machineOf : Modem → ℕ → Tek
+machineOf m said = slotAt m (slotOfSaid m said)
+
+-- Questions 14 and 13 of a pair: a key counts while its deadline is after the clock
+abbrev pub pairSeals : ℕ → Pair → Bool
+pairSeals clock p = eqb (p .held) 1 && ltb clock (p .newer .deadline)
+
+abbrev pub pairOpens : ℕ → TekNumber → Pair → Bool
+pairOpens clock number p = eqb (p .held) 1 && (serves clock number (p .older) || serves clock number (p .newer))
+
+-- The octets of the key of a machine that opens a frame
+abbrev pub machineOut : ℕ → TekNumber → Tek → KeyOut
+machineOut clock number t =
+    openedBy (openingOf clock number (t .pair .older) (t .pair .newer)) (widthOf (t .suite)) (t .pair .older) (t .pair .newer)
+
+-- The answers, asked of the SAID's machine: 1, 2, 10 and 14 of a sealing, 1, 2, 10 and 13 of an opening. A frame comes down to the modem,
+-- direction 1; its address is the modem's own
+unfoldable pub sealAsked : Modem → ℕ → Tek → ℕ → ℕ → Answer
+sealAsked m said t tek vector =
+    firstNo
+    (record { refusal = OutOfLimits; met = modemFits m && saidFits said }
+    ∷ record { refusal = WrongLength; met = leb 16 tek && leb 16 vector }
+    ∷ record { refusal = UnknownSaid; met = isKnown m said }
+    ∷ record { refusal = NoKeyToSeal; met = pairSeals (m .clock) (t .pair) }
+    ∷ [])
+
+unfoldable pub openAsked : Modem → ℕ → ℕ → ℕ → TekNumber → Tek → ℕ → ℕ → ℕ → Answer
+openAsked m direction address said number t tek vector lent =
+    firstNo
+    (record {
+      refusal = OutOfLimits;
+      met = modemFits m && eqb direction 1 && addressFits address && saidFits said && tekInRange number;
+    }
+    ∷ record { refusal = WrongLength; met = leb 16 tek && leb 16 vector && leb 216 lent }
+    ∷ record { refusal = UnknownSaid; met = eqb address (m .address) && isKnown m said }
+    ∷ record { refusal = NoKeyForFrame; met = pairOpens (m .clock) number (t .pair) }
+    ∷ [])
+
+-- ---- sealing: with the newer key
+abbrev pub canSeal : Modem → ℕ → Bool
+canSeal m said = pairSeals (m .clock) (machineOf m said .pair)
+
+unfoldable pub sealAnswer : Modem → ℕ → ℕ → ℕ → Answer
+sealAnswer m said tek vector = sealAsked m said (machineOf m said) tek vector
+
+unfoldable pub sealOf : Modem → ℕ → ℕ → ℕ → Sealed
+sealOf m said tek vector = sealedFor (sealAnswer m said tek vector) (widthOf (machineOf m said .suite)) (machineOf m said .pair .newer)
+
+-- ---- opening: with whichever held key has the frame's number
+abbrev pub canOpen : Modem → ℕ → TekNumber → Bool
+canOpen m said number = pairOpens (m .clock) number (machineOf m said .pair)
+
+unfoldable pub openAnswer : Modem → ℕ → ℕ → ℕ → TekNumber → ℕ → ℕ → ℕ → Answer
+openAnswer m direction address said number tek vector lent = openAsked m direction address said number (machineOf m said) tek vector lent
+
+-- The modem with other counts of frames
+abbrev pub withCounts : Modem → ℕ → ℕ → Modem
+withCounts m taken refused =
+    record {
+      settings = m .settings;
+      address = m .address;
+      said = m .said;
+      clock = m .clock;
+      counter = m .counter;
+      authorization = m .authorization;
+      used = m .used;
+      teks = m .teks;
+      taken = taken;
+      refused = refused;
+    }
+
+-- The modem after an opening that is answered with document 01's number n
+unfoldable pub countedBy : ℕ → Modem → Modem
+countedBy n m = countedAs n (withCounts m (oneMore (m .taken)) (m .refused)) (withCounts m (m .taken) (oneMore (m .refused))) m
+
+-- What opening gives: the answer, the modem after it, the key's octets, and the messages that go out
+pub record ModemOpened : Type 0 where
+  pub answer : Answer
+  pub modem : Modem
+  pub out : KeyOut
+  pub sent : List ℕ
+
+-- On 13 the SAID's machine takes event 5, and what that sends goes out
+abbrev pub missed : Bool → Answer → Modem → ℕ → ModemOpened
+missed is13 a m said =
+    cond is13
+    (record {
+      answer = a;
+      modem = countedBy 13 (told (starting m) (slotOfSaid m said) 5 .modem);
+      out = noOut;
+      sent = outOctets (told (starting m) (slotOfSaid m said) 5 .out);
+    })
+    (record { answer = a; modem = countedBy (answerNumber a) m; out = noOut; sent = [] })
+
+abbrev pub openedFor : Answer → Modem → ℕ → TekNumber → ModemOpened
+openedFor Done m said number =
+    record {
+      answer = Done;
+      modem = countedBy 0 m;
+      out = machineOut (m .clock) number (machineOf m said);
+      sent = [];
+    }
+openedFor (Refused r) m said number = missed (eqb (answerNumber (Refused r)) 13) (Refused r) m said
+
+unfoldable pub openOf : Modem → ℕ → ℕ → ℕ → TekNumber → ℕ → ℕ → ℕ → ModemOpened
+openOf m direction address said number tek vector lent =
+    openedFor (openAnswer m direction address said number tek vector lent) m said number

@@ -1,0 +1,246 @@
+// Sealing and opening a frame at the modem. Both ask their questions in document 01's order and have no `requires`.
+ghost use mathlib.Core.Path.{_≡_};
+ghost use mathlib.Core.Bool.{true};
+ghost use Prim.Native.Nat.{_≤_};
+ghost use lib.ListN.{length};
+ghost use Rattle.keys.specs.Octets.{overlay};
+ghost use Rattle.keys.specs.Sealing.{sealCalled};
+ghost use Rattle.modem_receive.specs.Receive.{isKnown};
+ghost use Rattle.modem_limits.specs.Limits.{modemFits};
+ghost use Rattle.modem_frames.specs.Frames.{sealOf, countedBy, missed, openOf, pairSeals, pairOpens, machineOut, sealAsked, openAsked};
+ghost use Rattle.modem_frames.specs.FrameCalled.{openedCall, openCalled, knownMachine};
+use keys::frame::Opening;
+use keys::frame::decide;
+use keys::frame::is_serving;
+use keys::numbers::TekNumber;
+use keys::numbers::tek_in_range;
+use keys::refusal::Answer;
+use keys::refusal::Refusal;
+use keys::refusal::answer_number;
+use keys::refusal::ask;
+use keys::refusal::is_done;
+use keys::sealing::SealedCall;
+use keys::sealing::one_more;
+use keys::sealing::put_key;
+use keys::suites::width;
+use machines::tek::Pair;
+use machines::tek::Tek;
+use modem::messages::put_out;
+use modem_limits::limits::modem_fits;
+use modem_steps::slots::slot_of_said;
+use modem_steps::state::Modem;
+use modem_steps::state::no_tek;
+use modem_steps::state::start;
+
+// What `open` hands back: the answer, the modem after it, how many octets of TEK and of vector were written, and how many of messages.
+pub struct OpenedCall {
+    pub answer: Answer,
+    pub modem: Modem,
+    pub width: usize,
+    pub count: usize,
+}
+
+// The machine of a SAID; one that holds nothing where the SAID is not known.
+fn machine_of(m: Modem, said: u16) -> Tek
+    ensures { λ r. ⌜ r ≡ knownMachine m said ⌝ }
+{
+    let i = slot_of_said(m, said);
+    if 4 <= i {
+        return no_tek();
+    }
+    m.teks[i]
+}
+
+fn is_known(m: Modem, said: u16) -> bool
+    ensures { λ r. ⌜ r ≡ isKnown m said ⌝ }
+{
+    slot_of_said(m, said) < 4
+}
+
+// Question 14.
+fn can_seal(clock: u64, p: Pair) -> bool
+    ensures { λ r. ⌜ r ≡ pairSeals clock p ⌝ }
+{
+    let newer = p.newer;
+    (p.held == 1) & (clock < newer.deadline)
+}
+
+// Question 13.
+fn can_open(clock: u64, number: TekNumber, p: Pair) -> bool
+    ensures { λ r. ⌜ r ≡ pairOpens clock number p ⌝ }
+{
+    let older = p.older;
+    let newer = p.newer;
+    (p.held == 1) & (is_serving(older, number, clock) | is_serving(newer, number, clock))
+}
+
+// All questions of `seal`; `t` is the SAID's machine, and the last two are the lengths of the lent slices.
+fn seal_answer(m: Modem, said: u16, t: Tek, tek: usize, vector: usize) -> Answer
+    ensures { λ a. ⌜ a ≡ sealAsked m said t tek vector ⌝ }
+{
+    let pair = t.pair;
+    let q1 = modem_fits(m) & (said <= 16383);
+    let q2 = (16 <= tek) & (16 <= vector);
+    let a14 = ask(can_seal(m.clock, pair), Refusal::NoKeyToSeal, Answer::Done);
+    let a10 = ask(is_known(m, said), Refusal::UnknownSaid, a14);
+    let a2 = ask(q2, Refusal::WrongLength, a10);
+    ask(q1, Refusal::OutOfLimits, a2)
+}
+
+// All questions of `open`.
+fn open_answer(
+    m: Modem,
+    direction: u8,
+    address: u64,
+    said: u16,
+    number: TekNumber,
+    t: Tek,
+    tek: usize,
+    vector: usize,
+    lent: usize,
+) -> Answer
+    ensures { λ a. ⌜ a ≡ openAsked m direction address said number t tek vector lent ⌝ }
+{
+    let pair = t.pair;
+    let q1 = modem_fits(m)
+        & (direction == 1)
+        & (address < 281474976710656)
+        & (said <= 16383)
+        & tek_in_range(number);
+    let q2 = (16 <= tek) & (16 <= vector) & (216 <= lent);
+    let q10 = (address == m.address) & is_known(m, said);
+    let a13 = ask(
+        can_open(m.clock, number, pair),
+        Refusal::NoKeyForFrame,
+        Answer::Done,
+    );
+    let a10 = ask(q10, Refusal::UnknownSaid, a13);
+    let a2 = ask(q2, Refusal::WrongLength, a10);
+    ask(q1, Refusal::OutOfLimits, a2)
+}
+
+// An opening that gave the number `n` adds one to the frames taken, or to those refused with 10 or 13.
+fn counted(n: u8, m: Modem) -> Modem
+    ensures { λ r. ⌜ r ≡ countedBy n m ⌝ }
+{
+    let mut r = m;
+    if n == 0 {
+        r.taken = one_more(m.taken);
+        return r;
+    }
+    if (n == 10) | (n == 13) {
+        r.refused = one_more(m.refused);
+        return r;
+    }
+    r
+}
+
+// The octets of the key of a machine that opens a frame, where one does; how many of each is handed back.
+fn put_opened(t: Tek, number: TekNumber, clock: u64, tek: &mut [u8], vector: &mut [u8]) -> usize
+    requires { ⌜ (16 ≤ length (now tek)) × (16 ≤ length (now vector)) ⌝ }
+    ensures { λ n. ⌜ (n ≡ length (machineOut clock number t .tek))
+        × ((now (tek .exit) ≡ overlay (now (tek .entry)) (machineOut clock number t .tek))
+        × (now (vector .exit) ≡ overlay (now (vector .entry)) (machineOut clock number t .vector))) ⌝ }
+{
+    let pair = t.pair;
+    let older = pair.older;
+    let newer = pair.newer;
+    let w = width(t.suite);
+    match decide(older, newer, number, clock) {
+        Opening::ByOlder => put_key(older, w, tek, vector),
+        Opening::ByNewer => put_key(newer, w, tek, vector),
+        Opening::ByNeither => 0,
+    }
+}
+
+fn opened_call(answer: Answer, modem: Modem, width: usize, count: usize) -> OpenedCall
+    ensures { λ c. ⌜ c ≡ openedCall answer modem width count ⌝ }
+{
+    OpenedCall {
+        answer: answer,
+        modem: modem,
+        width: width,
+        count: count,
+    }
+}
+
+// Refused with 13: the SAID's machine takes event 5, and what it sends is written.
+fn missing(m: Modem, said: u16, a: Answer, out: &mut [u8]) -> OpenedCall
+    requires { ⌜ (modemFits m ≡ true) × ((isKnown m said ≡ true) × (216 ≤ length (now out))) ⌝ }
+    ensures { λ c. ⌜ (c ≡ openCalled (missed true a m said))
+        × (now (out .exit) ≡ overlay (now (out .entry)) (missed true a m said .sent)) ⌝ }
+{
+    let i = slot_of_said(m, said);
+    let w = start(m).told(i, 5);
+    let o = w.out;
+    let after = w.modem;
+    let n = put_out(o, out);
+    let next = counted(13, after);
+    opened_call(a, next, 0, n)
+}
+
+// The newer key of a SAID, to seal a frame with.
+pub fn seal(m: Modem, said: u16, tek: &mut [u8], vector: &mut [u8]) -> SealedCall
+    ensures { λ r. ⌜ (r ≡ sealCalled (sealOf m said (length (now (tek .entry))) (length (now (vector .entry)))))
+        × ((now (tek .exit) ≡ overlay (now (tek .entry)) (sealOf m said (length (now (tek .entry))) (length (now (vector .entry))) .out .tek))
+        × (now (vector .exit) ≡ overlay (now (vector .entry)) (sealOf m said (length (now (tek .entry))) (length (now (vector .entry))) .out .vector))) ⌝ }
+{
+    let t = machine_of(m, said);
+    let a = seal_answer(m, said, t, tek.len(), vector.len());
+    if !is_done(a) {
+        return SealedCall {
+            answer: a,
+            number: TekNumber(0),
+            width: 0,
+        };
+    }
+    let pair = t.pair;
+    let k = pair.newer;
+    let number = k.number;
+    let n = put_key(k, width(t.suite), tek, vector);
+    SealedCall {
+        answer: a,
+        number: number,
+        width: n,
+    }
+}
+
+// The key that opens a frame, where one held does.
+pub fn open(
+    m: Modem,
+    direction: u8,
+    address: u64,
+    said: u16,
+    number: TekNumber,
+    tek: &mut [u8],
+    vector: &mut [u8],
+    out: &mut [u8],
+) -> OpenedCall
+    ensures { λ r. ⌜ (r ≡ openCalled (openOf m direction address said number (length (now (tek .entry))) (length (now (vector .entry))) (length (now (out .entry)))))
+        × ((now (tek .exit) ≡ overlay (now (tek .entry)) (openOf m direction address said number (length (now (tek .entry))) (length (now (vector .entry))) (length (now (out .entry))) .out .tek))
+        × ((now (vector .exit) ≡ overlay (now (vector .entry)) (openOf m direction address said number (length (now (tek .entry))) (length (now (vector .entry))) (length (now (out .entry))) .out .vector))
+        × (now (out .exit) ≡ overlay (now (out .entry)) (openOf m direction address said number (length (now (tek .entry))) (length (now (vector .entry))) (length (now (out .entry))) .sent)))) ⌝ }
+{
+    let t = machine_of(m, said);
+    let a = open_answer(
+        m,
+        direction,
+        address,
+        said,
+        number,
+        t,
+        tek.len(),
+        vector.len(),
+        out.len(),
+    );
+    let n = answer_number(a);
+    if n == 13 {
+        return missing(m, said, a, out);
+    }
+    let next = counted(n, m);
+    if n != 0 {
+        return opened_call(a, next, 0, 0);
+    }
+    let w = put_opened(t, number, m.clock, tek, vector);
+    opened_call(a, next, w, 0)
+}

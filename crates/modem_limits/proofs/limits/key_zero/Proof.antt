@@ -1,0 +1,19 @@
+-- `modem_limits::limits::key_zero` meets its contract.
+use Rattle.keys.specs.Octets.{zeroPast}
+use Rattle.modem_limits.specs.Limits.{keyZero}
+use borrow.Author.Needs.{needs}
+use Rattle.modem_limits.proofs.limits.key_zero.Statement.{statement}
+use Rattle.modem_limits.proofs.limits.key_zero.Tie as tie
+
+zero-past-requires : tie.Need-zero-past-requires
+zero-past-requires c κs = search needs
+
+zero-past-requires-2 : tie.Need-zero-past-requires-2
+zero-past-requires-2 c κs = search needs
+
+returns : tie.Need-returns
+unfolding keyZero zeroPast
+returns c = cc
+
+pub key-zero-spec : {M : Type 1} → statement M
+key-zero-spec = tie.close (tie.spec zero-past-requires zero-past-requires-2 returns)

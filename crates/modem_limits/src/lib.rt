@@ -1,0 +1,2 @@
+// Question 1 of the modem's state. The contract equates the answer with specs/Limits.antt.
+pub mod limits;

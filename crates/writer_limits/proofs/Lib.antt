@@ -1,0 +1,2 @@
+pub mod NeededLaws
+pub mod ApartLaws

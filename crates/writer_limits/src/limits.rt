@@ -1,0 +1,201 @@
+// Question 1 of fields to be written: what would not be read back as it is, or what the receiving end would refuse, is refused.
+ghost use Prim.Native.Nat.{_<_};
+ghost use mathlib.Core.Path.{_≡_};
+ghost use mathlib.Core.Bool.{_&&_, true};
+ghost use lib.ListN.{take};
+ghost use lib.Dec.{leb, eqb};
+ghost use Rattle.keys.specs.Addresses.{saidFits};
+ghost use Rattle.wire.specs.Ranges.{needs};
+ghost use Rattle.wire.specs.Messages.{different};
+ghost use Rattle.wire.specs.Limits.{carriedOr, keyOctetsFit, keyOctetsZero, paramsFit, paramsZero, pairFit, descriptorFit, descriptorZero, placeFit, saidsOf, descriptorsFit, descriptorsZero, headFits, fieldsFit, authKeyFits};
+use crate::needed::is_needed;
+use keys::apart::all_apart;
+use keys::numbers::AkNumber;
+use keys::numbers::ak_in_range;
+use keys::numbers::same_tek;
+use keys::numbers::tek_after;
+use keys::numbers::tek_in_range;
+use keys::octets::zero_past;
+use keys::suites::suite_known;
+use keys::suites::width_known;
+use wire::fields::Descriptor;
+use wire::fields::Fields;
+use wire::fields::KeyOctets;
+use wire::fields::Params;
+
+// A field that the code carries is in its range; one that it does not carry is zero.
+fn carried_or(has: bool, fits: bool, zero: bool) -> bool
+    ensures { λ r. ⌜ r ≡ carriedOr has fits zero ⌝ }
+{
+    if has {
+        return fits;
+    }
+    zero
+}
+
+pub fn key_octets_fit(k: KeyOctets) -> bool
+    ensures { λ r. ⌜ r ≡ keyOctetsFit k ⌝ }
+{
+    let octets = k.octets;
+    width_known(k.width) & zero_past(octets, k.width)
+}
+
+pub fn key_octets_zero(k: KeyOctets) -> bool
+    ensures { λ r. ⌜ r ≡ keyOctetsZero k ⌝ }
+{
+    let octets = k.octets;
+    (k.width == 0) & zero_past(octets, 0)
+}
+
+pub fn params_fit(p: Params) -> bool
+    ensures { λ r. ⌜ r ≡ paramsFit p ⌝ }
+{
+    let tek = p.tek;
+    let vector = p.vector;
+    tek_in_range(p.number)
+        & (1 <= p.life)
+        & (p.life <= 604800)
+        & key_octets_fit(tek)
+        & key_octets_fit(vector)
+}
+
+pub fn params_zero(p: Params) -> bool
+    ensures { λ r. ⌜ r ≡ paramsZero p ⌝ }
+{
+    let tek = p.tek;
+    let vector = p.vector;
+    (p.number.0 == 0) & (p.life == 0) & key_octets_zero(tek) & key_octets_zero(vector)
+}
+
+// Two TEK-Parameters: the newer has the number after the older's, and the longer life.
+pub fn pair_fit(older: Params, newer: Params) -> bool
+    ensures { λ r. ⌜ r ≡ pairFit older newer ⌝ }
+{
+    params_fit(older)
+        & params_fit(newer)
+        & same_tek(newer.number, tek_after(older.number, 1))
+        & (older.life < newer.life)
+}
+
+pub fn descriptor_fit(d: Descriptor) -> bool
+    ensures { λ r. ⌜ r ≡ descriptorFit d ⌝ }
+{
+    (d.said <= 16383) & (d.kind <= 2) & suite_known(d.suite)
+}
+
+pub fn descriptor_zero(d: Descriptor) -> bool
+    ensures { λ r. ⌜ r ≡ descriptorZero d ⌝ }
+{
+    (d.said == 0) & (d.kind == 0) & (d.suite == 0)
+}
+
+// The descriptor at a place, where the first `n` are there.
+fn place_fit(n: usize, i: usize, ds: [Descriptor; 4]) -> bool
+    requires { ⌜ i < 4 ⌝ }
+    ensures { λ r. ⌜ r ≡ placeFit n i ds ⌝ }
+{
+    let d = ds[i];
+    carried_or(i < n, descriptor_fit(d), descriptor_zero(d))
+}
+
+// Whether the SAIDs of the first `n` descriptors are different.
+pub fn saids_differ(n: usize, ds: [Descriptor; 4]) -> bool
+    ensures { λ r. ⌜ r ≡ different (saidsOf (take n ds)) ⌝ }
+{
+    let first = ds[0];
+    let second = ds[1];
+    let third = ds[2];
+    let fourth = ds[3];
+    all_apart(n, first.said, second.said, third.said, fourth.said)
+}
+
+pub fn descriptors_fit(n: usize, ds: [Descriptor; 4]) -> bool
+    ensures { λ r. ⌜ r ≡ descriptorsFit n ds ⌝ }
+{
+    (1 <= n)
+        & (n <= 4)
+        & place_fit(n, 0, ds)
+        & place_fit(n, 1, ds)
+        & place_fit(n, 2, ds)
+        & place_fit(n, 3, ds)
+        & saids_differ(n, ds)
+}
+
+pub fn descriptors_zero(n: usize, ds: [Descriptor; 4]) -> bool
+    ensures { λ r. ⌜ r ≡ descriptorsZero n ds ⌝ }
+{
+    (n == 0) & place_fit(0, 0, ds) & place_fit(0, 1, ds) & place_fit(0, 2, ds) & place_fit(0, 3, ds)
+}
+
+pub fn head_fits(c: u8, identifier: u8) -> bool
+    ensures { λ r. ⌜ r ≡ headFits c identifier ⌝ }
+{
+    (4 <= c) & (c <= 12) & (!((c == 11) | (c == 12)) | (identifier == 0))
+}
+
+fn ak_fits(c: u8, ak: AkNumber) -> bool
+    ensures { λ r. ⌜ r ≡ carriedOr (needs c 10) (leb (ak .0) 15) (eqb (ak .0) 0) ⌝ }
+{
+    carried_or(is_needed(c, 10), ak_in_range(ak), ak.0 == 0)
+}
+
+fn said_fits(c: u8, said: u16) -> bool
+    ensures { λ r. ⌜ r ≡ carriedOr (needs c 12) (saidFits said) (eqb said 0) ⌝ }
+{
+    carried_or(is_needed(c, 12), said <= 16383, said == 0)
+}
+
+fn life_fits(c: u8, life: u64) -> bool
+    ensures { λ r. ⌜ r ≡ carriedOr (needs c 9) (leb 1 life && leb life 12096000) (eqb life 0) ⌝ }
+{
+    carried_or(is_needed(c, 9), (1 <= life) & (life <= 12096000), life == 0)
+}
+
+fn error_fits(c: u8, error: u8) -> bool
+    ensures { λ r. ⌜ r ≡ carriedOr (needs c 16) true (eqb error 0) ⌝ }
+{
+    carried_or(is_needed(c, 16), true, error == 0)
+}
+
+fn list_fits(c: u8, n: usize, ds: [Descriptor; 4]) -> bool
+    ensures { λ r. ⌜ r ≡ carriedOr (needs c 23) (descriptorsFit n ds) (descriptorsZero n ds) ⌝ }
+{
+    carried_or(
+        is_needed(c, 23),
+        descriptors_fit(n, ds),
+        descriptors_zero(n, ds),
+    )
+}
+
+fn keys_fit(c: u8, older: Params, newer: Params) -> bool
+    ensures { λ r. ⌜ r ≡ carriedOr (needs c 13) (pairFit older newer) (paramsZero older && paramsZero newer) ⌝ }
+{
+    carried_or(
+        is_needed(c, 13),
+        pair_fit(older, newer),
+        params_zero(older) & params_zero(newer),
+    )
+}
+
+// Question 1 of all fields.
+pub fn fields_fit(f: Fields) -> bool
+    ensures { λ r. ⌜ r ≡ fieldsFit f ⌝ }
+{
+    let ds = f.descriptors;
+    let older = f.older;
+    let newer = f.newer;
+    head_fits(f.code, f.identifier)
+        & ak_fits(f.code, f.ak)
+        & said_fits(f.code, f.said)
+        & life_fits(f.code, f.life)
+        & error_fits(f.code, f.error)
+        & list_fits(f.code, f.count, ds)
+        & keys_fit(f.code, older, newer)
+}
+
+// Question 2 of the AUTH-Key: 1 to 256 octets, where the code carries one.
+pub fn auth_key_fits(f: Fields, len: usize) -> bool
+    ensures { λ r. ⌜ r ≡ authKeyFits f len ⌝ }
+{
+    !is_needed(f.code, 7) | ((1 <= len) & (len <= 256))
+}
