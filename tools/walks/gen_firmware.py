@@ -1,8 +1,8 @@
 """The walks of firmware::headend_calls: the head-end's own call, then a function on values."""
 from thin import thin
 
-CALLS = "use Rattle.headend.specs.Calls.{%s}"
-HEAD = "use Rattle.firmware.specs.HeadEndCalls.{%s}"
+CALLS = "use Rattle.headend_rules.specs.Calls.{%s}"
+HEAD = "use Rattle.for_c.specs.HeadEndCalls.{%s}"
 OCTETS = "use Rattle.keys.specs.Octets.{overlay}"
 
 
@@ -19,15 +19,15 @@ for fn, args in (("list", "h (records .now) address allowed listing (material .n
 KEY = [("tek", ".out .tek"), ("vector", ".out .vector")]
 SEAL = "sealOf h (records .now) address said (length (tek .now)) (length (vector .now))"
 relay("seal", ("sealCalled (%s)" % SEAL,) + written("(%s)" % SEAL, KEY), "frameSealed {got}",
-      [OCTETS, "use Rattle.keys.specs.Sealing.{sealCalled}", "use Rattle.headend.specs.FrameCalls.{sealOf}", "use Rattle.firmware.specs.ModemCalls.{frameSealed}"])
+      [OCTETS, "use Rattle.keys.specs.Sealing.{sealCalled}", "use Rattle.headend_rules.specs.FrameCalls.{sealOf}", "use Rattle.for_c.specs.ModemCalls.{frameSealed}"])
 OPEN = "openOf h (records .now) direction address said {tekno} (length (tek .now)) (length (vector .now)) (length (invalid .now))"
 relay("open", ("openCalled (%s)" % OPEN,) + written("(%s)" % OPEN, KEY + [("invalid", ".invalid")]), "headEndOpening {got}",
-      [OCTETS, "use Rattle.headend.specs.FrameCalls.{openOf}", "use Rattle.headend_frames.specs.FrameCalled.{openCalled}", HEAD % "headEndOpening"],
+      [OCTETS, "use Rattle.headend_rules.specs.FrameCalls.{openOf}", "use Rattle.headend_frames.specs.FrameCalled.{openCalled}", HEAD % "headEndOpening"],
       [("tekno", "record {{ 0 = number }}")])
 RECEIVE = "{quizzed} (records .now) address {one} (message .now) (key .now) (length (out .now))"
 ASKED = "h (records .now) address digest (message .now) (key .now) (length (out .now))"
 relay("receive", ("receiveOf " + RECEIVE, "overlay (out .now) (receiveOctets %s)" % RECEIVE), "receivedOf h digest {got}",
       [OCTETS, "use lib.Dec.{eqb}", CALLS % "receiveOf, receiveOctets", HEAD % "askedOf, receivedOf, receiveCall, receiveWritten",
-       "use Rattle.firmware.proofs.HeadEndCallLaws.{asked-called, asked-written}"],
+       "use Rattle.for_c.proofs.HeadEndCallLaws.{asked-called, asked-written}"],
       [("quizzed", "askedOf h digest"), ("one", "eqb digest 1")],
       [("asked-called " + ASKED, "receiveCall " + ASKED), ("asked-written %s (out .now)" % ASKED, "overlay (out .now) (receiveWritten %s)" % ASKED)])

@@ -2,21 +2,21 @@
 ghost use mathlib.Core.Path.{_≡_};
 ghost use lib.ListN.{length};
 ghost use Rattle.keys.specs.Octets.{overlay};
-ghost use Rattle.apply_modem.specs.Steps.{worldOf, stepFor};
-ghost use Rattle.apply_modem.specs.Gave.{gaveOf};
-ghost use Rattle.apply_modem.specs.Applied.{appliedOf};
+ghost use Rattle.apply_rules.specs.Steps.{worldOf, stepFor};
+ghost use Rattle.apply_rules.specs.Gave.{gaveOf};
+ghost use Rattle.apply_rules.specs.Applied.{appliedOf};
 use crate::head::apply_clock;
 use crate::head::apply_list;
 use crate::head::apply_open_up;
 use crate::head::apply_seal_down;
 use crate::head::apply_up;
-use apply_modem::ends::Applied;
-use apply_modem::ends::Ends;
 use apply_modem::modem_side::apply_down;
 use apply_modem::modem_side::apply_established;
 use apply_modem::modem_side::apply_open_down;
 use apply_modem::modem_side::apply_reauth;
 use apply_modem::modem_side::apply_seal_up;
+use apply_rules::ends::Applied;
+use apply_rules::ends::Ends;
 use calls::Call;
 use calls::Kind;
 

@@ -3,28 +3,28 @@ ghost use mathlib.Core.Path.{_≡_};
 ghost use lib.Dec.{eqb};
 ghost use lib.ListN.{length};
 ghost use Rattle.keys.specs.Octets.{overlay};
-ghost use Rattle.keys.specs.Refusal.{answerNumber};
+ghost use Rattle.questions.specs.Refusal.{answerNumber};
 ghost use Rattle.plant.specs.World.{list, clock, up, sealDown, openUp};
-ghost use Rattle.apply_modem.specs.Steps.{worldOf};
-ghost use Rattle.apply_modem.specs.Gave.{gaveOf};
-ghost use Rattle.apply_modem.specs.Applied.{appliedOf, quietOf};
+ghost use Rattle.apply_rules.specs.Steps.{worldOf};
+ghost use Rattle.apply_rules.specs.Gave.{gaveOf};
+ghost use Rattle.apply_rules.specs.Applied.{appliedOf, quietOf};
 use apply_held::held::clock_held;
 use apply_held::held::list_held;
 use apply_held::held::open_held;
 use apply_held::held::receive_held;
 use apply_held::held::seal_held;
-use apply_modem::ends::Applied;
-use apply_modem::ends::Ends;
-use apply_modem::ends::quiet;
-use apply_modem::ends::refused;
 use apply_modem::modem_side::clock_modem;
+use apply_rules::ends::Applied;
+use apply_rules::ends::Ends;
+use apply_rules::ends::quiet;
+use apply_rules::ends::refused;
 use association::record::Assoc;
 use calls::Call;
 use headend_state::state::Called;
 use keys::numbers::TekNumber;
-use keys::refusal::answer_number;
-use keys::refusal::is_done;
 use modem_steps::state::Modem;
+use questions::refusal::answer_number;
+use questions::refusal::is_done;
 
 // What a call of the head-end gives, with the modem as it was.
 fn of_head(c: Called, records: [Assoc; 64], modem: Modem) -> Applied

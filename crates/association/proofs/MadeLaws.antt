@@ -8,7 +8,7 @@ use mathlib.Core.List.{List, [], _∷_, _++_, List·Memᴰ, List·Memᴰ·head, 
 use native.Mathlib.Omega.{arith}
 use native.Mathlib.Nat.{mul-le-mul-right}
 use lib.Dec.{ltb}
-use Rattle.keys.proofs.ListLaws.{Each, each-nil, each-cons, each-snoc, snoc-cases, snoc-last, IfLt, if-lt}
+use Rattle.questions.proofs.ListLaws.{Each, each-nil, each-cons, each-snoc, snoc-cases, snoc-last, IfLt, if-lt}
 use Rattle.association.specs.Made.{Made, SaidSuite, Line, madeAt, listedLine, mintsBy, mints, pushed, pushedAll, lineTo, Accepted, listing, clock, keysMadeFrom, keysMade}
 
 -- What holds of any two keys made of one SAID

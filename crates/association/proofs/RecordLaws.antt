@@ -11,8 +11,8 @@ use Rattle.keys.specs.declared.numbers.TekNumber.{TekNumber}
 use Rattle.keys.specs.Numbers.{tekInRange, afterOf, tekNumber}
 use Rattle.keys.specs.Suites.{suiteKnown, widthOf}
 use Rattle.keys.specs.Traffic.{keyFits, follows}
-use Rattle.keys.proofs.TestLaws.{sub-leb, sub-eqb, both}
-use Rattle.keys.proofs.ListLaws.{IfLt, if-lt}
+use Rattle.questions.proofs.TestLaws.{sub-leb, sub-eqb, both}
+use Rattle.questions.proofs.ListLaws.{IfLt, if-lt}
 use Rattle.keys.proofs.OctetsLaws.{octets-zero-past}
 use Rattle.keys.proofs.TrafficLaws.{after-in-range, next-follows}
 use Rattle.association.specs.declared.record.Assoc.{Assoc}

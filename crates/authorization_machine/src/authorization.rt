@@ -3,13 +3,13 @@ ghost use mathlib.Core.Path.{_≡_};
 ghost use Rattle.authorization_machine.specs.Authorization.{isPassive, requestsInto, authTakesNew, authIdentifier, authCounter, authTimer, akAfter, informsOf, requestsOf, authMoved, authStepOf, AuthReady};
 use keys::numbers::AkNumber;
 use machines::identifier::next_identifier;
-use machines::tek::Request;
-use machines::tek::less;
-use machines::tek::no_request;
 use machines::timer::Timer;
 use machines::timer::cleared;
 use machines::timer::set_at;
 use machines::transitions::authorization_next;
+use tek_machine::tek::Request;
+use tek_machine::tek::less;
+use tek_machine::tek::no_request;
 
 // `state` is 0 to 5 for A to F; `identifier` is that of its last Request; `ak` is the number of the last Reply's key.
 #[repr(C)]

@@ -1,5 +1,5 @@
 // A call of either end as a value: what a program that is told of calls reads, and what is applied to both ends. The octets that a call
-// brings are lent beside it.
+// brings are lent beside it. A call by its numbers is defined in specs/Calls.antt.
 ghost use mathlib.Core.Path.{_≡_};
 ghost use Rattle.calls.specs.Calls.{plain};
 use association::listing::Listing;

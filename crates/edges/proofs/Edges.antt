@@ -2,10 +2,10 @@
 use mathlib.Core.Path.{_≡_, refl}
 use Rattle.wire.specs.declared.fields.Params.{Params}
 use Rattle.wire.proofs.Vectors.{read-I6, number-103, number-107}
-use Rattle.machines.specs.declared.tek.Tek.{Tek}
-use Rattle.machines.specs.declared.tek.TekMoment.{TekMoment}
+use Rattle.tek_machine.specs.declared.tek.Tek.{Tek}
+use Rattle.tek_machine.specs.declared.tek.TekMoment.{TekMoment}
 use Rattle.machines.specs.Transitions.{C, D, F, nextIn, tekTransitions, authorizationTransitions}
-use Rattle.machines.specs.Tek.{noPair, nothing, tekStays, tekStepOf, tekMoved, tekSends, identifierAfter, pairAfter}
+use Rattle.tek_machine.specs.Tek.{noPair, nothing, tekStays, tekStepOf, tekMoved, tekSends, identifierAfter, pairAfter}
 use Rattle.authorization_machine.specs.declared.authorization.Authorization.{Authorization}
 use Rattle.authorization_machine.specs.declared.authorization.AuthMoment.{AuthMoment}
 use Rattle.authorization_machine.specs.Authorization.{authIdentifier, requestsOf, authMoved, authStepOf}

@@ -4,19 +4,19 @@ use mathlib.Core.Path.{_≡_}
 use Prim.Native.Nat.{ℕ}
 use mathlib.Core.List.{List, [], _∷_}
 use lib.ListN.{set, take}
-use Rattle.keys.specs.declared.refusal.Answer.the-variants.{Done}
-use Rattle.keys.specs.Refusal.{answerNumber}
+use Rattle.questions.specs.declared.refusal.Answer.the-variants.{Done}
+use Rattle.questions.specs.Refusal.{answerNumber}
 use Rattle.wire.specs.declared.fields.Params.{Params}
 use Rattle.wire.specs.declared.fields.Receiver.the-variants.{Modem}
 use Rattle.wire.specs.Reading.{noPlace, readOf}
 use Rattle.wire.specs.Vectors.{replyI6, fieldsI6}
-use Rattle.machines.specs.declared.tek.Tek.{Tek}
-use Rattle.machines.specs.declared.tek.TekMoment.{TekMoment}
+use Rattle.tek_machine.specs.declared.tek.Tek.{Tek}
+use Rattle.tek_machine.specs.declared.tek.TekMoment.{TekMoment}
 use Rattle.machines.specs.Identifier.{nextIdentifier}
 use Rattle.authorization_machine.specs.declared.authorization.Authorization.{Authorization}
 use Rattle.authorization_machine.specs.declared.authorization.AuthMoment.{AuthMoment}
 use Rattle.authorization_machine.specs.Authorization.{authStepOf}
-use Rattle.machines.specs.Tek.{noPair, nothing, tekStays, tekStepOf}
+use Rattle.tek_machine.specs.Tek.{noPair, nothing, tekStays, tekStepOf}
 use Rattle.machines.specs.Transitions.{C, D, F, authorizationNext}
 use Rattle.association.specs.declared.record.Assoc.{Assoc}
 use Rattle.association.specs.Roll.{rolledOf}

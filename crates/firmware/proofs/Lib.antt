@@ -1,4 +1,1 @@
-pub mod ModemCallLaws
-pub mod HeadEndCallLaws
-pub mod ReadLaws
 pub mod WriteLaws

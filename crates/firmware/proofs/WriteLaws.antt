@@ -5,17 +5,17 @@ use mathlib.Core.Bool.{Bool, true, false}
 use mathlib.Core.List.{List}
 use lib.Dec.{leb}
 use lib.ListN.{length}
-use Rattle.keys.specs.declared.refusal.Answer.{Answer}
-use Rattle.keys.specs.declared.refusal.Answer.the-variants.{Done, Refused}
+use Rattle.questions.specs.declared.refusal.Answer.{Answer}
+use Rattle.questions.specs.declared.refusal.Answer.the-variants.{Done, Refused}
 use Rattle.keys.specs.Octets.{overlay}
-use Rattle.keys.specs.Questions.{firstNo}
-use Rattle.keys.specs.Refusal.{answerNumber}
+use Rattle.questions.specs.Questions.{firstNo}
+use Rattle.questions.specs.Refusal.{answerNumber}
 use Rattle.wire.specs.declared.fields.Fields.{Fields}
 use Rattle.wire.specs.declared.fields.Writing.{Writing}
 use Rattle.wire.specs.Limits.{fieldsFit}
 use Rattle.wire.specs.Writing.{messageOf, noDigest, writeQuestions, writtenFor, writtenOf, writeOf}
 use Rattle.firmware.specs.declared.write.Written.{Written}
-use Rattle.firmware.specs.Read.{Call, callFor}
+use Rattle.for_c.specs.Read.{Call, callFor}
 use Rattle.firmware.specs.Write.{writeCallQuestions, writeCallFor, Writes}
 
 call-written : (m : List ℕ) (a : Answer) → callFor a m ≡ record { number = answerNumber a; written = writtenFor a m }

@@ -4,15 +4,15 @@ use mathlib.Core.List.{List, _∷_}
 use Prim.Native.Nat.{ℕ}
 use lib.Dec.{leb}
 use lib.ListN.{length}
-use Rattle.keys.specs.declared.refusal.Refusal.the-variants.{OutOfLimits, WrongLength}
+use Rattle.questions.specs.declared.refusal.Refusal.the-variants.{OutOfLimits, WrongLength}
 use Rattle.keys.specs.Octets.{overlay}
-use Rattle.keys.specs.Questions.{Question, firstNo}
+use Rattle.questions.specs.Questions.{Question, firstNo}
 use Rattle.wire.specs.declared.fields.Fields.{Fields}
 use Rattle.wire.specs.Limits.{fieldsFit}
 use Rattle.wire.specs.Writing.{messageOf, noDigest, writeQuestions}
 use Rattle.firmware.specs.declared.write.Written.{Written}
 use Rattle.layout.specs.Layout.{fieldsFrom}
-use Rattle.firmware.specs.Read.{Call, callFor}
+use Rattle.for_c.specs.Read.{Call, callFor}
 
 -- Question 1 of the fields, question 2 of how many octets they stand in, then those of the writer
 unfoldable pub writeCallQuestions : Fields → ℕ → List ℕ → ℕ → List Question

@@ -1,54 +1,34 @@
 // The head-end for C: every call with the state by value in and out, the records as a lent slice, and the answer as document 01's number.
 // The functions over records are straight lines: the head-end's own call, then a function on values.
 ghost use mathlib.Core.Path.{_≡_};
-ghost use lib.Dec.{eqb};
 ghost use lib.ListN.{length};
 ghost use Rattle.keys.specs.Octets.{overlay};
 ghost use Rattle.keys.specs.Sealing.{sealCalled};
-ghost use Rattle.headend.specs.Calls.{newOf, listOf, listRecords, clockOf, clockRecords};
-ghost use Rattle.headend.specs.FrameCalls.{sealOf, openOf};
+ghost use Rattle.headend_rules.specs.Calls.{newOf, listOf, listRecords, clockOf, clockRecords};
+ghost use Rattle.headend_rules.specs.FrameCalls.{sealOf, openOf};
 ghost use Rattle.headend_frames.specs.FrameCalled.{openCalled};
-ghost use Rattle.firmware.specs.ModemCalls.{frameSealed};
-ghost use Rattle.firmware.specs.HeadEndCalls.{headEndCall, askedOf, receivedOf, receiveCall, receiveWritten, headEndOpening};
-use crate::modem_calls::FrameSealed;
-use crate::modem_calls::frame_sealed;
+ghost use Rattle.for_c.specs.ModemCalls.{frameSealed};
+ghost use Rattle.for_c.specs.HeadEndCalls.{headEndCall, receiveCall, receiveWritten, headEndOpening};
 use association::listing::Listing;
 use association::record::Assoc;
+use for_c::headend_values::HeadEndCall;
+use for_c::headend_values::HeadEndOpening;
+use for_c::headend_values::asked;
+use for_c::headend_values::headend_call;
+use for_c::headend_values::headend_opening;
+use for_c::headend_values::is_one;
+use for_c::headend_values::received;
+use for_c::headend_values::tek_number;
+use for_c::modem_values::FrameSealed;
+use for_c::modem_values::frame_sealed;
 use headend::calls::clock;
 use headend::calls::list;
 use headend::calls::new;
 use headend::calls::receive;
 use headend::frames::open;
 use headend::frames::seal;
-use headend_frames::frames::OpenedCall;
-use headend_state::state::Called;
 use headend_state::state::HeadEnd;
-use headend_state::state::fresh;
-use keys::numbers::TekNumber;
-use keys::refusal::answer_number;
-use keys::settings::Settings;
-use keys::settings::no_settings;
-
-// What a call answers: document 01's number, how many octets of an answer were written, and the head-end after it.
-#[repr(C)]
-pub struct HeadEndCall {
-    pub number: u8,
-    pub count: usize,
-    pub headend: HeadEnd,
-}
-
-fn headend_call(c: Called) -> HeadEndCall
-    ensures { λ r. ⌜ r ≡ headEndCall c ⌝ }
-{
-    let a = c.answer;
-    let h = c.state;
-    let number = answer_number(a);
-    HeadEndCall {
-        number: number,
-        count: c.count,
-        headend: h,
-    }
-}
+use questions::settings::Settings;
 
 // A fresh head-end at clock 0; where it is refused, one that is all zero.
 #[no_mangle]
@@ -89,37 +69,6 @@ pub extern "C" fn curlewreel_headend_clock(
     headend_call(c)
 }
 
-// The head-end that is asked: where the digest word is neither 0 nor 1, one whose settings are out of their limits, so that the call is
-// refused with 1 before it looks further.
-fn asked(h: HeadEnd, digest: u8) -> HeadEnd
-    ensures { λ r. ⌜ r ≡ askedOf h digest ⌝ }
-{
-    if 1 < digest {
-        return fresh(no_settings());
-    }
-    h
-}
-
-fn is_one(digest: u8) -> bool
-    ensures { λ r. ⌜ r ≡ eqb digest 1 ⌝ }
-{
-    digest == 1
-}
-
-// What is handed back: where the digest word is out of the limits, the caller's own head-end.
-fn received(h: HeadEnd, digest: u8, c: Called) -> HeadEndCall
-    ensures { λ r. ⌜ r ≡ receivedOf h digest c ⌝ }
-{
-    if 1 < digest {
-        return HeadEndCall {
-            number: 1,
-            count: 0,
-            headend: h,
-        };
-    }
-    headend_call(c)
-}
-
 // A message from the modem of that address; `digest` is 1 where its digest holds and 0 where not, and any other is out of the limits.
 #[no_mangle]
 pub extern "C" fn curlewreel_headend_receive(
@@ -155,36 +104,6 @@ pub extern "C" fn curlewreel_headend_seal(
 {
     let c = seal(h, records, address, said, tek, vector);
     frame_sealed(c)
-}
-
-// What opening at the head-end answers: document 01's number, how many octets of TEK and of vector were written, how many of a TEK
-// Invalid, and the head-end after it.
-#[repr(C)]
-pub struct HeadEndOpening {
-    pub number: u8,
-    pub width: usize,
-    pub count: usize,
-    pub headend: HeadEnd,
-}
-
-fn headend_opening(c: OpenedCall) -> HeadEndOpening
-    ensures { λ r. ⌜ r ≡ headEndOpening c ⌝ }
-{
-    let a = c.answer;
-    let h = c.state;
-    let number = answer_number(a);
-    HeadEndOpening {
-        number: number,
-        width: c.width,
-        count: c.count,
-        headend: h,
-    }
-}
-
-fn tek_number(number: u8) -> TekNumber
-    ensures { λ r. ⌜ r ≡ record { 0 = number } ⌝ }
-{
-    TekNumber(number)
 }
 
 #[no_mangle]

@@ -6,42 +6,23 @@ ghost use Rattle.modem.specs.Calls.{newOf, establishedOf, reauthOf, clockOf};
 ghost use Rattle.keys.specs.Sealing.{sealCalled};
 ghost use Rattle.modem_frames.specs.Frames.{sealOf, openOf};
 ghost use Rattle.modem_frames.specs.FrameCalled.{openCalled};
-ghost use Rattle.firmware.specs.ModemCalls.{modemCall, receiveCall, receiveWritten, frameSealed, modemOpening};
+ghost use Rattle.for_c.specs.ModemCalls.{modemCall, receiveCall, receiveWritten, frameSealed, modemOpening};
+use for_c::modem_values::FrameSealed;
+use for_c::modem_values::ModemCall;
+use for_c::modem_values::ModemOpening;
+use for_c::modem_values::frame_sealed;
+use for_c::modem_values::modem_call;
+use for_c::modem_values::modem_opening;
 use keys::numbers::TekNumber;
-use keys::refusal::answer_number;
-use keys::sealing::SealedCall;
-use keys::settings::Settings;
 use modem::calls::clock;
 use modem::calls::established;
 use modem::calls::new;
 use modem::calls::reauth;
 use modem::calls::receive;
-use modem_frames::frames::OpenedCall;
 use modem_frames::frames::open;
 use modem_frames::frames::seal;
-use modem_steps::state::Called;
 use modem_steps::state::Modem;
-
-// What a call answers: document 01's number, how many octets of messages were written, and the modem after it.
-#[repr(C)]
-pub struct ModemCall {
-    pub number: u8,
-    pub count: usize,
-    pub modem: Modem,
-}
-
-fn modem_call(c: Called) -> ModemCall
-    ensures { λ r. ⌜ r ≡ modemCall c ⌝ }
-{
-    let a = c.answer;
-    let m = c.modem;
-    let number = answer_number(a);
-    ModemCall {
-        number: number,
-        count: c.count,
-        modem: m,
-    }
-}
+use questions::settings::Settings;
 
 // A fresh modem at clock 0; where it is refused, one that is all zero.
 #[no_mangle]
@@ -101,27 +82,6 @@ pub extern "C" fn curlewreel_modem_receive(
     modem_call(c)
 }
 
-// What sealing answers: document 01's number, the key's number, and how many octets of TEK and of vector were written.
-#[repr(C)]
-pub struct FrameSealed {
-    pub number: u8,
-    pub key: u8,
-    pub width: usize,
-}
-
-pub fn frame_sealed(c: SealedCall) -> FrameSealed
-    ensures { λ r. ⌜ r ≡ frameSealed c ⌝ }
-{
-    let a = c.answer;
-    let k = c.number;
-    let number = answer_number(a);
-    FrameSealed {
-        number: number,
-        key: k.0,
-        width: c.width,
-    }
-}
-
 #[no_mangle]
 pub extern "C" fn curlewreel_modem_seal(
     m: Modem,
@@ -135,30 +95,6 @@ pub extern "C" fn curlewreel_modem_seal(
 {
     let c = seal(m, said, tek, vector);
     frame_sealed(c)
-}
-
-// What opening at the modem answers: document 01's number, how many octets of TEK and of vector were written, how many of messages, and
-// the modem after it.
-#[repr(C)]
-pub struct ModemOpening {
-    pub number: u8,
-    pub width: usize,
-    pub count: usize,
-    pub modem: Modem,
-}
-
-fn modem_opening(c: OpenedCall) -> ModemOpening
-    ensures { λ r. ⌜ r ≡ modemOpening c ⌝ }
-{
-    let a = c.answer;
-    let m = c.modem;
-    let number = answer_number(a);
-    ModemOpening {
-        number: number,
-        width: c.width,
-        count: c.count,
-        modem: m,
-    }
 }
 
 #[no_mangle]

@@ -1,20 +1,10 @@
 // The reading of a message for C: its fields go to a lent slice, as specs/Layout.antt says.
-ghost use mathlib.Core.Path.{_≡_};
 ghost use lib.ListN.{length};
-ghost use Rattle.firmware.specs.Read.{receiverAt, readCallOf, Answers};
-use keys::refusal::answer_number;
+ghost use Rattle.for_c.specs.Read.{readCallOf, Answers};
+use for_c::receiver::receiver;
 use layout::layout::put_reading;
+use questions::refusal::answer_number;
 use reader::read::read;
-use wire::fields::Receiver;
-
-fn receiver(end: u8) -> Receiver
-    ensures { λ r. ⌜ r ≡ receiverAt end ⌝ }
-{
-    if end == 0 {
-        return Receiver::HeadEnd;
-    }
-    Receiver::Modem
-}
 
 // Reads `message` at the head-end (`end` is 0) or at the modem (1): its fields and two places go to the first 117 octets of `fields`,
 // and the answer is 0. Refused with 1, 2 or 6 to 9, and then nothing is written.

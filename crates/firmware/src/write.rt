@@ -1,8 +1,8 @@
 // The writing of a message for C: its fields come in octets, as specs/Layout.antt says.
 ghost use lib.ListN.{length};
 ghost use Rattle.firmware.specs.Write.{writeCallOf, Writes};
-use keys::refusal::answer_number;
 use layout::layout::fields_from;
+use questions::refusal::answer_number;
 use writer::write::write;
 use writer_limits::limits::fields_fit;
 

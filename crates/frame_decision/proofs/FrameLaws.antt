@@ -15,7 +15,7 @@ use Rattle.keys.specs.Numbers.{tekInRange}
 use Rattle.keys.specs.Suites.{widthKnown}
 use Rattle.keys.specs.Traffic.{pairFits}
 use Rattle.keys.specs.Frame.{openingOf}
-use Rattle.keys.proofs.TestLaws.{both}
+use Rattle.questions.proofs.TestLaws.{both}
 use Rattle.frame_decision.specs.Frame.{Given, frameFits, slicesFit, isHeld, chosenOf, frameNumber, decisionOf, Gives}
 
 module _ (clock : ℕ) (older newer : TrafficKey) (w : ℕ) (number : TekNumber) (keys : ℕ) (tek vector : List ℕ) where

@@ -7,7 +7,7 @@ use lib.Dec.{leb, eqb}
 use lib.ListN.{length, take}
 use Rattle.keys.specs.declared.numbers.TekNumber.{TekNumber}
 use Rattle.keys.specs.declared.traffic.TrafficKey.{TrafficKey}
-use Rattle.keys.specs.declared.refusal.Refusal.the-variants.{OutOfLimits, WrongLength, NoKeyForFrame}
+use Rattle.questions.specs.declared.refusal.Refusal.the-variants.{OutOfLimits, WrongLength, NoKeyForFrame}
 use Rattle.keys.specs.declared.frame.Opening.{Opening}
 use Rattle.keys.specs.declared.frame.Opening.the-variants.{ByOlder, ByNewer, ByNeither}
 use Rattle.keys.specs.Numbers.{tekInRange}
@@ -15,8 +15,8 @@ use Rattle.keys.specs.Suites.{widthKnown}
 use Rattle.keys.specs.Octets.{overlay}
 use Rattle.keys.specs.Traffic.{keyFrom, pairFits}
 use Rattle.keys.specs.Frame.{openingNumber, openingOf}
-use Rattle.keys.specs.Questions.{firstNo}
-use Rattle.keys.specs.Refusal.{answerNumber}
+use Rattle.questions.specs.Questions.{firstNo}
+use Rattle.questions.specs.Refusal.{answerNumber}
 
 -- Question 1: the clock, the width, the frame's number, and the pair that is held
 unfoldable pub frameFits : ℕ → TrafficKey → TrafficKey → ℕ → TekNumber → Bool

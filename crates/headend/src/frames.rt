@@ -1,11 +1,11 @@
 // The head-end's calls on frames: sealing one for a modem, and opening one that came from it. The records are read and not changed. Both
-// are straight lines: every decision is made by a function of `headend_steps` on values.
+// are straight lines: every decision is made by a function of `headend_frames` on values.
 ghost use mathlib.Core.Path.{_≡_};
 ghost use lib.ListN.{length};
 ghost use Rattle.keys.specs.Octets.{overlay};
 ghost use Rattle.keys.specs.Sealing.{sealCalled};
 ghost use Rattle.headend_frames.specs.FrameCalled.{openCalled};
-ghost use Rattle.headend.specs.FrameCalls.{sealOf, openOf};
+ghost use Rattle.headend_rules.specs.FrameCalls.{sealOf, openOf};
 use association::record::Assoc;
 use headend_frames::frames::OpenedCall;
 use headend_frames::frames::open_called;

@@ -10,18 +10,18 @@ use borrow.Author.Tests.{leb-true, le-leb, le-ltb, lt-ltb, ne-eqb}
 use Rattle.keys.specs.declared.numbers.TekNumber.{TekNumber}
 use Rattle.keys.specs.declared.traffic.TrafficKey.{TrafficKey}
 use Rattle.keys.specs.declared.frame.Opening.{Opening}
-use Rattle.keys.specs.declared.refusal.Answer.{Answer}
-use Rattle.keys.specs.declared.refusal.Answer.the-variants.{Done, Refused}
-use Rattle.keys.specs.declared.refusal.Refusal.the-variants.{OutOfLimits, WrongLength, UnknownSaid, NoKeyForFrame}
+use Rattle.questions.specs.declared.refusal.Answer.{Answer}
+use Rattle.questions.specs.declared.refusal.Answer.the-variants.{Done, Refused}
+use Rattle.questions.specs.declared.refusal.Refusal.the-variants.{OutOfLimits, WrongLength, UnknownSaid, NoKeyForFrame}
 use Rattle.keys.specs.Numbers.{tekInRange}
 use Rattle.keys.specs.Octets.{allZero, zeroPast, overlay}
 use Rattle.keys.specs.Suites.{widthOf}
-use Rattle.keys.specs.Questions.{Question}
-use Rattle.keys.specs.Refusal.{numberOf, answerNumber, isDone}
+use Rattle.questions.specs.Questions.{Question}
+use Rattle.questions.specs.Refusal.{numberOf, answerNumber, isDone}
 use Rattle.keys.specs.Frame.{serves}
 use Rattle.keys.specs.Sealing.{KeyOut, keyOut, Sealed, sealedFor, openedBy, sealCalled}
-use Rattle.keys.proofs.AnswerLaws.{done-met, is-done, number-done}
-use Rattle.keys.proofs.TestLaws.{both}
+use Rattle.questions.proofs.AnswerLaws.{done-met, is-done, number-done}
+use Rattle.questions.proofs.TestLaws.{both}
 use Rattle.association.specs.declared.search.Found.{Found}
 use Rattle.keys.specs.Addresses.{saidFits, addressFits}
 use Rattle.wire.specs.declared.fields.Fields.{Fields}

@@ -2,8 +2,8 @@
 use mathlib.Core.Path.{_≡_}
 use Prim.Native.Nat.{ℕ, _≤_}
 use lib.ListN.{length}
-use Rattle.keys.specs.declared.refusal.Answer.{Answer}
-use Rattle.keys.specs.Refusal.{answerNumber}
+use Rattle.questions.specs.declared.refusal.Answer.{Answer}
+use Rattle.questions.specs.Refusal.{answerNumber}
 use Rattle.headend_frames.specs.declared.frames.OpenedCall.{OpenedCall}
 use Rattle.headend_frames.specs.Frames.{HeadOpened}
 

@@ -5,13 +5,13 @@ use Prim.Native.Nat.{ℕ}
 use lib.Dec.{leb, ltb, eqb}
 use Rattle.keys.specs.declared.numbers.TekNumber.{TekNumber}
 use Rattle.keys.specs.declared.frame.Opening.{Opening}
-use Rattle.keys.specs.declared.refusal.Answer.{Answer}
-use Rattle.keys.specs.declared.refusal.Answer.the-variants.{Done, Refused}
-use Rattle.keys.specs.declared.refusal.Refusal.the-variants.{OutOfLimits, WrongLength, UnknownSaid, NoKeyForFrame}
+use Rattle.questions.specs.declared.refusal.Answer.{Answer}
+use Rattle.questions.specs.declared.refusal.Answer.the-variants.{Done, Refused}
+use Rattle.questions.specs.declared.refusal.Refusal.the-variants.{OutOfLimits, WrongLength, UnknownSaid, NoKeyForFrame}
 use Rattle.keys.specs.Numbers.{tekInRange}
 use Rattle.keys.specs.Suites.{widthOf}
-use Rattle.keys.specs.Questions.{firstNo}
-use Rattle.keys.specs.Refusal.{answerNumber}
+use Rattle.questions.specs.Questions.{firstNo}
+use Rattle.questions.specs.Refusal.{answerNumber}
 use Rattle.keys.specs.Frame.{serves, openingOf}
 use Rattle.keys.specs.Sealing.{KeyOut, noOut, Sealed, sealedFor, openedBy, oneMore, countedAs}
 use Rattle.association.specs.declared.search.Found.{Found}

@@ -25,16 +25,16 @@ use keys::frame::decide;
 use keys::frame::is_serving;
 use keys::numbers::TekNumber;
 use keys::numbers::tek_in_range;
-use keys::refusal::Answer;
-use keys::refusal::Refusal;
-use keys::refusal::answer_number;
-use keys::refusal::ask;
-use keys::refusal::is_done;
 use keys::sealing::SealedCall;
 use keys::sealing::one_more;
 use keys::sealing::put_key;
 use keys::suites::width;
 use keys::traffic::TrafficKey;
+use questions::refusal::Answer;
+use questions::refusal::Refusal;
+use questions::refusal::answer_number;
+use questions::refusal::ask;
+use questions::refusal::is_done;
 
 // What opening hands back: the answer, the head-end after it, how many octets of TEK and of vector were written, and how many of a
 // TEK Invalid.

@@ -1,2 +1,3 @@
-// Frames at the head-end on values: sealing one for a modem and opening one from it, with what the search over the records found. Crate `headend` has the calls, over lent records.
+// Frames at the head-end, on values: sealing one for a modem and opening one from it, with what the search over the records found. Each contract equates
+// the answer, the state and every lent octet with a definition of specs/Frames.antt. Crate `headend` has the calls, over lent records.
 pub mod frames;

@@ -8,9 +8,9 @@ use native.Mathlib.Omega.{arith}
 use lib.Dec.{leb, ltb, eqb}
 use lib.ListN.{length, getD}
 use borrow.Author.Tests.{leb-true, le-leb, ltb-true, lt-ltb, le-ltb, eqb-true}
-use Rattle.keys.specs.Settings.{lifeFits, tekTimesFit, akTimesFit, settingsFit}
-use Rattle.keys.proofs.TestLaws.{both, either}
-use Rattle.keys.proofs.ListLaws.{IfLt, if-lt}
+use Rattle.questions.specs.Settings.{lifeFits, tekTimesFit, akTimesFit, settingsFit}
+use Rattle.questions.proofs.TestLaws.{both, either}
+use Rattle.questions.proofs.ListLaws.{IfLt, if-lt}
 use Rattle.wire.proofs.HoldsLaws.{never}
 use Rattle.headend_state.specs.declared.state.AuthKeys.{AuthKeys}
 use Rattle.headend_state.specs.declared.state.Entry.{Entry}

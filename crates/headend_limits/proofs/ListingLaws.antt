@@ -7,7 +7,7 @@ use native.Mathlib.Omega.{arith}
 use lib.Dec.{leb, ltb, eqb}
 use borrow.Author.Tests.{leb-true, ltb-true, lt-ltb, eqb-true, eq-eqb, lt-leb, not-true}
 use Rattle.keys.specs.Suites.{suiteKnown}
-use Rattle.keys.proofs.TestLaws.{both, either}
+use Rattle.questions.proofs.TestLaws.{both, either}
 use Rattle.wire.proofs.HoldsLaws.{never}
 use Rattle.association.specs.declared.listing.Listing.{Listing}
 use Rattle.association.specs.Listing.{namesOf}

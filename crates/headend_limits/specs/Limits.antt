@@ -4,7 +4,7 @@ use mathlib.Core.List.{List, [], _∷_, _++_}
 use Prim.Native.Nat.{ℕ, _+_}
 use lib.Dec.{leb, ltb, eqb}
 use Rattle.keys.specs.Numbers.{akInRange}
-use Rattle.keys.specs.Settings.{settingsFit}
+use Rattle.questions.specs.Settings.{settingsFit}
 use Rattle.keys.specs.Suites.{suiteKnown}
 use Rattle.association.specs.declared.listing.Listing.{Listing}
 use Rattle.association.specs.Listing.{namesOf}

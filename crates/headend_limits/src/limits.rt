@@ -14,9 +14,9 @@ use headend_state::state::AuthKeys;
 use headend_state::state::Entry;
 use headend_state::state::HeadEnd;
 use keys::numbers::ak_in_range;
-use keys::settings::settings_fit;
 use keys::suites::suite_known;
 use keys::traffic::is_within;
+use questions::settings::settings_fit;
 
 // An address has 48 bits.
 pub fn address_fits(address: u64) -> bool

@@ -9,7 +9,7 @@ use association::search::Probe;
 use headend_state::entries::Known;
 use headend_state::entries::is_listing_suite;
 use headend_state::state::HeadEnd;
-use keys::settings::half;
+use questions::settings::half;
 use wire::fields::Reading;
 
 // H, by the head-end's settings.

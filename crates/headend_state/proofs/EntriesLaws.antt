@@ -8,7 +8,7 @@ use native.Mathlib.Omega.{arith}
 use lib.Dec.{ltb, eqb}
 use lib.ListN.{length, getD, take, drop}
 use lib.Seq.{length-take-le, take-all, take-suc, take-take, drop-cons, drop-length, getD-take}
-use Rattle.keys.proofs.ListLaws.{IfLt, if-lt}
+use Rattle.questions.proofs.ListLaws.{IfLt, if-lt}
 use Rattle.headend_state.specs.declared.state.Entry.{Entry}
 use Rattle.headend_state.specs.Entries.{inUse, hereOr, knownHere, knownNone, knownFrom}
 

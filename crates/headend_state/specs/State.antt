@@ -2,8 +2,8 @@
 use Prim.Native.Nat.{ℕ}
 use mathlib.Core.List.{List}
 use lib.ListN.{replicate}
-use Rattle.keys.specs.declared.refusal.Answer.{Answer}
-use Rattle.keys.specs.declared.settings.Settings.{Settings}
+use Rattle.questions.specs.declared.refusal.Answer.{Answer}
+use Rattle.questions.specs.declared.settings.Settings.{Settings}
 use Rattle.association.specs.Listing.{noListing}
 use Rattle.headend_state.specs.declared.state.AuthKeys.{AuthKeys}
 use Rattle.headend_state.specs.declared.state.Entry.{Entry}

@@ -1,13 +1,13 @@
 // The head-end's state, and what a call hands back.
 ghost use mathlib.Core.Path.{_≡_};
-ghost use Rattle.keys.specs.Refusal.{answerNumber};
+ghost use Rattle.questions.specs.Refusal.{answerNumber};
 ghost use Rattle.headend_state.specs.State.{noEntry, freshOf, answeredCall};
 use association::listing::Listing;
 use association::listing::no_listing;
 use keys::numbers::AkNumber;
-use keys::refusal::Answer;
-use keys::refusal::answer_number;
-use keys::settings::Settings;
+use questions::refusal::Answer;
+use questions::refusal::answer_number;
+use questions::settings::Settings;
 
 // The authorization keys of a modem: the number that the next one gets, and the deadlines of the last two made, 0 for none.
 #[repr(C)]

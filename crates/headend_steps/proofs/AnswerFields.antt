@@ -12,7 +12,7 @@ use Rattle.keys.specs.declared.traffic.TrafficKey.{TrafficKey}
 use Rattle.keys.specs.Octets.{allZero, zeroPast}
 use Rattle.keys.specs.Suites.{widthOf, suiteKnown, widthKnown}
 use Rattle.keys.specs.Traffic.{keyFits, follows}
-use Rattle.keys.proofs.TestLaws.{both}
+use Rattle.questions.proofs.TestLaws.{both}
 use Rattle.wire.specs.declared.fields.Descriptor.{Descriptor}
 use Rattle.wire.specs.declared.fields.Fields.{Fields}
 use Rattle.wire.specs.declared.fields.Params.{Params}

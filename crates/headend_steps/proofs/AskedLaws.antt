@@ -8,17 +8,17 @@ use native.Mathlib.Omega.{arith}
 use lib.Dec.{leb, ltb, eqb}
 use lib.ListN.{length}
 use borrow.Author.Tests.{leb-true, ltb-true, eqb-true}
-use Rattle.keys.specs.declared.refusal.Answer.{Answer}
-use Rattle.keys.specs.declared.refusal.Answer.the-variants.{Done, Refused}
-use Rattle.keys.specs.declared.refusal.Refusal.the-variants.{OutOfLimits, WrongLength, WrongIdentifier}
-use Rattle.keys.specs.Questions.{Question, firstNo, answerThen}
-use Rattle.keys.specs.Refusal.{isDone}
-use Rattle.keys.proofs.TestLaws.{both, either}
+use Rattle.questions.specs.declared.refusal.Answer.{Answer}
+use Rattle.questions.specs.declared.refusal.Answer.the-variants.{Done, Refused}
+use Rattle.questions.specs.declared.refusal.Refusal.the-variants.{OutOfLimits, WrongLength, WrongIdentifier}
+use Rattle.questions.specs.Questions.{Question, firstNo, answerThen}
+use Rattle.questions.specs.Refusal.{isDone}
+use Rattle.questions.proofs.TestLaws.{both, either}
 use Rattle.association.specs.declared.listing.Listing.{Listing}
 use Rattle.association.specs.declared.search.Found.{Found}
 use Rattle.keys.specs.Addresses.{saidFits, addressFits}
 use Rattle.wire.specs.declared.fields.Reading.{Reading}
-use Rattle.keys.proofs.AnswerLaws.{done-met, is-done}
+use Rattle.questions.proofs.AnswerLaws.{done-met, is-done}
 use Rattle.headend_state.specs.declared.state.HeadEnd.{HeadEnd}
 use Rattle.headend_answers.specs.declared.answers.Reaction.{Reaction}
 use Rattle.headend_state.specs.State.{withClock, answeredCall}

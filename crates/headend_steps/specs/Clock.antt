@@ -3,10 +3,10 @@ use mathlib.Core.Bool.{_&&_}
 use mathlib.Core.List.{List, [], _∷_}
 use Prim.Native.Nat.{ℕ, _*_}
 use lib.Dec.{leb, eqb}
-use Rattle.keys.specs.declared.refusal.Answer.{Answer}
-use Rattle.keys.specs.declared.refusal.Answer.the-variants.{Done, Refused}
-use Rattle.keys.specs.declared.refusal.Refusal.the-variants.{OutOfLimits, WrongLength, ClockOutOfOrder}
-use Rattle.keys.specs.Questions.{Question, firstNo}
+use Rattle.questions.specs.declared.refusal.Answer.{Answer}
+use Rattle.questions.specs.declared.refusal.Answer.the-variants.{Done, Refused}
+use Rattle.questions.specs.declared.refusal.Refusal.the-variants.{OutOfLimits, WrongLength, ClockOutOfOrder}
+use Rattle.questions.specs.Questions.{Question, firstNo}
 use Rattle.headend_state.specs.declared.state.HeadEnd.{HeadEnd}
 use Rattle.headend_state.specs.declared.state.Called.{Called}
 use Rattle.headend_state.specs.State.{withClock, answeredCall}

@@ -5,10 +5,10 @@ use mathlib.Core.List.{List, [], _∷_}
 use Prim.Native.Nat.{ℕ, _≤_}
 use lib.Dec.{leb, eqb}
 use lib.ListN.{length}
-use Rattle.keys.specs.declared.refusal.Answer.{Answer}
-use Rattle.keys.specs.declared.refusal.Answer.the-variants.{Done, Refused}
-use Rattle.keys.specs.declared.refusal.Refusal.the-variants.{OutOfLimits, WrongLength, WrongIdentifier}
-use Rattle.keys.specs.Questions.{firstThen}
+use Rattle.questions.specs.declared.refusal.Answer.{Answer}
+use Rattle.questions.specs.declared.refusal.Answer.the-variants.{Done, Refused}
+use Rattle.questions.specs.declared.refusal.Refusal.the-variants.{OutOfLimits, WrongLength, WrongIdentifier}
+use Rattle.questions.specs.Questions.{firstThen}
 use Rattle.association.specs.declared.search.Found.{Found}
 use Rattle.keys.specs.Addresses.{saidFits, addressFits}
 use Rattle.wire.specs.declared.fields.Fields.{Fields}

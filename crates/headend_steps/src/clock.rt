@@ -8,10 +8,10 @@ use headend_limits::search::records_fit;
 use headend_state::state::Called;
 use headend_state::state::HeadEnd;
 use headend_state::state::answered;
-use keys::refusal::Answer;
-use keys::refusal::Refusal;
-use keys::refusal::ask;
-use keys::refusal::is_done;
+use questions::refusal::Answer;
+use questions::refusal::Refusal;
+use questions::refusal::ask;
+use questions::refusal::is_done;
 
 // Questions 1, 2 and 3. `bad` is the place of the first record out of its limits, `len` the number of records lent.
 fn clock_answer(h: HeadEnd, t: u64, bad: usize, len: usize, octets: usize) -> Answer

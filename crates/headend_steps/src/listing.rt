@@ -16,10 +16,10 @@ use headend_state::state::Entry;
 use headend_state::state::HeadEnd;
 use headend_state::state::answered;
 use keys::numbers::AkNumber;
-use keys::refusal::Answer;
-use keys::refusal::Refusal;
-use keys::refusal::ask;
-use keys::refusal::is_done;
+use questions::refusal::Answer;
+use questions::refusal::Refusal;
+use questions::refusal::ask;
+use questions::refusal::is_done;
 
 // Whether `count` more than `used` are at most `limit`; the sum is not formed, so it cannot wrap.
 fn has_room(used: usize, count: usize, limit: usize) -> bool

@@ -2,5 +2,4 @@ pub mod BoolLaws
 pub mod TurnLaws
 pub mod SlotLaws
 pub mod HitLaws
-pub mod InsideLaws
 pub mod BodyLaws

@@ -1,4 +1,4 @@
-// Holders of attributes: ranges of values, the one pass over a message's body or a compound's inside, and what the compounds hold.
-pub mod compound;
+// Holders of attributes: the range of a value, and the one pass over a message's body or a compound's inside (specs/Slots.antt, specs/Pass.antt). The laws
+// in proofs/ join these to the definitions of crate `wire`.
 pub mod pass;
 pub mod range;

@@ -6,9 +6,9 @@ use Rattle.keys.specs.declared.numbers.TekNumber.{TekNumber}
 use Rattle.keys.specs.declared.traffic.TrafficKey.{TrafficKey}
 use Rattle.keys.specs.declared.frame.Opening.{Opening}
 use Rattle.keys.specs.declared.frame.Opening.the-variants.{ByOlder, ByNewer, ByNeither}
-use Rattle.keys.specs.declared.refusal.Refusal.the-variants.{NoKeyForFrame}
+use Rattle.questions.specs.declared.refusal.Refusal.the-variants.{NoKeyForFrame}
 use Rattle.keys.specs.Numbers.{sameTek}
-use Rattle.keys.specs.Refusal.{numberOf}
+use Rattle.questions.specs.Refusal.{numberOf}
 
 -- A key opens frames of its number while its deadline is after the clock
 unfoldable pub serves : ℕ → TekNumber → TrafficKey → Bool

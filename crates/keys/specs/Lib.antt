@@ -2,11 +2,7 @@ pub mod Numbers
 pub mod Suites
 pub mod Addresses
 pub mod Octets
-pub mod Apart
 pub mod Traffic
-pub mod Settings
-pub mod Refusal
-pub mod Questions
 pub mod Frame
 pub mod Put
 pub mod Sealing

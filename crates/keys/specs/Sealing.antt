@@ -9,8 +9,8 @@ use Rattle.keys.specs.declared.traffic.TrafficKey.{TrafficKey}
 use Rattle.keys.specs.declared.sealing.SealedCall.{SealedCall}
 use Rattle.keys.specs.declared.frame.Opening.{Opening}
 use Rattle.keys.specs.declared.frame.Opening.the-variants.{ByOlder, ByNewer, ByNeither}
-use Rattle.keys.specs.declared.refusal.Answer.{Answer}
-use Rattle.keys.specs.declared.refusal.Answer.the-variants.{Done, Refused}
+use Rattle.questions.specs.declared.refusal.Answer.{Answer}
+use Rattle.questions.specs.declared.refusal.Answer.the-variants.{Done, Refused}
 
 -- The octets of a key that go to the front of the two lent slices: as many as the suite's width
 pub record KeyOut : Type 0 where

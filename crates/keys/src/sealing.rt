@@ -6,8 +6,8 @@ ghost use Rattle.keys.specs.Octets.{overlay};
 ghost use Rattle.keys.specs.Sealing.{keyOut, oneMore};
 use crate::numbers::TekNumber;
 use crate::octets::put;
-use crate::refusal::Answer;
 use crate::traffic::TrafficKey;
+use questions::refusal::Answer;
 
 // What sealing hands back: the answer, the key's number, and how many octets of TEK and of vector were written; 0 where it is refused.
 pub struct SealedCall {

@@ -16,7 +16,7 @@ use Rattle.wire.specs.Fields.{noDescriptor}
 use Rattle.wire.proofs.AttributesLaws.{be16-two, be32-four}
 use Rattle.wire.proofs.FieldsFit.{Shaped}
 use Rattle.wire.proofs.PartsWritten.{ShapedParams}
-use Rattle.keys.proofs.ListLaws.{of-four}
+use Rattle.questions.proofs.ListLaws.{of-four}
 use Rattle.layout.specs.Layout.{keyLaid, paramsLaid, descriptorLaid, descriptorsLaid, headLaid, fieldsOctets, keyFrom, paramsFrom, descriptorFrom, descriptorsFrom, fieldsFrom}
 
 -- ---- numbers within what their octets hold; those of one octet that are not named here are declared so

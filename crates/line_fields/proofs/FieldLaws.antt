@@ -10,7 +10,7 @@ use lib.Dec.{leb, ltb, eqb, leb·zero, leb·suc-suc}
 use lib.ListN.{length, getD, take, drop, length-take, length-drop, drop-of-length-le}
 use lib.Seq.{drop-cons, drop-drop, getD-drop}
 use borrow.Author.Tests.{le-leb, lt-leb, leb-true, leb-false, eq-eqb, ne-eqb}
-use Rattle.keys.proofs.ListLaws.{IfLt, if-lt}
+use Rattle.questions.proofs.ListLaws.{IfLt, if-lt}
 use Rattle.line_fields.specs.declared.fields.Field.{Field}
 use Rattle.line_fields.specs.Fields.{joined, cutWhen, fieldsOf, field}
 use Rattle.line_fields.specs.Places.{Inside, Holds, Cut, textOf, fieldAt, fieldsFrom, cutsOf}

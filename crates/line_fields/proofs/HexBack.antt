@@ -7,7 +7,7 @@ use native.Mathlib.Omega.{arith}
 use lib.Dec.{ltb}
 use lib.ListN.{length}
 use borrow.Author.Tests.{le-leb, lt-leb, eq-eqb}
-use Rattle.keys.proofs.ListLaws.{Each, IfLt, if-lt}
+use Rattle.questions.proofs.ListLaws.{Each, IfLt, if-lt}
 use Rattle.line_fields.specs.Hex.{isHex, hexValue, allHex, isOctets, octetsOf, hexDigit, hexOf}
 use Rattle.line_fields.proofs.HexLaws.{hex-length}
 

@@ -9,7 +9,7 @@ use lib.Dec.{leb}
 use lib.ListN.{length, getD, take, drop, set, drop-of-length-le, length-drop}
 use lib.Seq.{sets, drop-cons, take-suc, length-take-le, getD-drop}
 use borrow.Author.Tests.{leb-true}
-use Rattle.keys.proofs.TestLaws.{both}
+use Rattle.questions.proofs.TestLaws.{both}
 use Rattle.keys.proofs.OctetsLaws.{put-more}
 use Rattle.keys.proofs.StoreLaws.{sets-append}
 use Rattle.keys.specs.Octets.{overlay}

@@ -1,4 +1,3 @@
 pub mod Transitions
 pub mod Identifier
 pub mod Timers
-pub mod Tek

@@ -7,17 +7,17 @@ use native.Mathlib.Omega.{arith}
 use lib.Dec.{ltb, leb}
 use lib.ListN.{length}
 use borrow.Author.Tests.{ltb-true, leb-true}
-use Rattle.keys.specs.declared.refusal.Answer.{Answer}
-use Rattle.keys.specs.declared.refusal.Answer.the-variants.{Done, Refused}
-use Rattle.keys.specs.declared.refusal.Refusal.{Refusal}
-use Rattle.keys.specs.declared.refusal.Refusal.the-variants.{ClockOutOfOrder}
-use Rattle.keys.specs.declared.settings.Settings.{Settings}
-use Rattle.keys.specs.Questions.{Question, firstNo}
-use Rattle.keys.specs.Settings.{settingsFit}
-use Rattle.keys.proofs.TestLaws.{both}
+use Rattle.questions.specs.declared.refusal.Answer.{Answer}
+use Rattle.questions.specs.declared.refusal.Answer.the-variants.{Done, Refused}
+use Rattle.questions.specs.declared.refusal.Refusal.{Refusal}
+use Rattle.questions.specs.declared.refusal.Refusal.the-variants.{ClockOutOfOrder}
+use Rattle.questions.specs.declared.settings.Settings.{Settings}
+use Rattle.questions.specs.Questions.{Question, firstNo}
+use Rattle.questions.specs.Settings.{settingsFit}
+use Rattle.questions.proofs.TestLaws.{both}
 use Rattle.wire.specs.declared.fields.Receiver.the-variants.{Modem as AtModem}
 use Rattle.wire.specs.Messages.{question9, messageAnswer}
-use Rattle.keys.proofs.AnswerLaws.{done-met}
+use Rattle.questions.proofs.AnswerLaws.{done-met}
 use Rattle.wire.proofs.MessageAnswers.{answer-done}
 use Rattle.modem_steps.specs.declared.state.Modem.{Modem}
 use Rattle.modem_steps.specs.declared.state.Work.{Work}

@@ -6,14 +6,14 @@ use Prim.Native.Nat.{ℕ}
 use native.Mathlib.Omega.{arith}
 use lib.Dec.{eqb, ltb}
 use borrow.Author.Tests.{eqb-true}
-use Rattle.keys.specs.declared.refusal.Answer.{Answer}
-use Rattle.keys.specs.declared.refusal.Answer.the-variants.{Done}
-use Rattle.keys.specs.Questions.{firstNo}
-use Rattle.keys.proofs.AnswerLaws.{done-met}
+use Rattle.questions.specs.declared.refusal.Answer.{Answer}
+use Rattle.questions.specs.declared.refusal.Answer.the-variants.{Done}
+use Rattle.questions.specs.Questions.{firstNo}
+use Rattle.questions.proofs.AnswerLaws.{done-met}
 use Rattle.wire.specs.declared.fields.Fields.{Fields}
 use Rattle.wire.specs.declared.fields.Params.{Params}
 use Rattle.wire.specs.Fields.{noParams}
-use Rattle.machines.specs.declared.tek.Request.{Request}
+use Rattle.tek_machine.specs.declared.tek.Request.{Request}
 use Rattle.machines.specs.Transitions.{D, blank, authorizationNext}
 use Rattle.modem_steps.specs.declared.state.Modem.{Modem}
 use Rattle.modem_steps.specs.declared.state.Work.{Work}

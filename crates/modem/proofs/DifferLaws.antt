@@ -7,7 +7,7 @@ use native.Mathlib.Omega.{arith}
 use lib.Dec.{eqb}
 use lib.ListN.{length}
 use borrow.Author.Tests.{eqb-true, eqb-false, ne-eqb}
-use Rattle.keys.proofs.ListLaws.{Each, each-nil, each-cons, each-snoc}
+use Rattle.questions.proofs.ListLaws.{Each, each-nil, each-cons, each-snoc}
 use Rattle.wire.specs.Messages.{isNone}
 use Rattle.wire.proofs.HoldsLaws.{never}
 

@@ -7,22 +7,22 @@ use Prim.Native.Nat.{ℕ, zero, suc, _+_, _-_, _≤_}
 use native.Mathlib.Omega.{arith}
 use lib.Dec.{ltb, leb, eqb}
 use borrow.Author.Tests.{leb-true, le-leb, eqb-true, eq-eqb}
-use Rattle.keys.specs.declared.settings.Waits.{Waits}
+use Rattle.questions.specs.declared.settings.Waits.{Waits}
 use Rattle.keys.specs.Suites.{widthOf}
 use Rattle.keys.specs.Octets.{allZero}
 use Rattle.keys.specs.Traffic.{keyFits, follows, pairFits}
-use Rattle.keys.proofs.TestLaws.{both}
+use Rattle.questions.proofs.TestLaws.{both}
 use Rattle.wire.specs.declared.fields.Params.{Params}
 use Rattle.wire.proofs.HoldsLaws.{never}
 use Rattle.authorization_machine.specs.declared.authorization.Authorization.{Authorization}
 use Rattle.authorization_machine.specs.declared.authorization.AuthMoment.{AuthMoment}
-use Rattle.machines.specs.declared.tek.Pair.{Pair}
-use Rattle.machines.specs.declared.tek.Tek.{Tek}
-use Rattle.machines.specs.declared.tek.TekMoment.{TekMoment}
+use Rattle.tek_machine.specs.declared.tek.Pair.{Pair}
+use Rattle.tek_machine.specs.declared.tek.Tek.{Tek}
+use Rattle.tek_machine.specs.declared.tek.TekMoment.{TekMoment}
 use Rattle.machines.specs.declared.timer.Timer.{Timer}
 use Rattle.machines.specs.Transitions.{Transition, A, B, C, D, E, F, blank, nextIn, authorizationTransitions, tekTransitions, authorizationNext, tekNext}
 use Rattle.machines.specs.Timers.{off, setAt}
-use Rattle.machines.specs.Tek.{noPair, pairOf, pairAfter, tekTimer, tekMoved, tekStays, tekStepOf}
+use Rattle.tek_machine.specs.Tek.{noPair, pairOf, pairAfter, tekTimer, tekMoved, tekStays, tekStepOf}
 use Rattle.authorization_machine.specs.Authorization.{isPassive, authTimer, authMoved, authStays, authStepOf, AuthReady}
 use Rattle.modem_limits.specs.Limits.{timerFits, keyZero, authorizationFits, pairHeldFits, longestWait, tekFits}
 use Rattle.modem_limits.proofs.LimitsLaws.{tek-in, tek-by, auth-in, auth-by}

@@ -7,13 +7,13 @@ use native.Mathlib.Omega.{arith}
 use lib.Dec.{ltb, eqb}
 use lib.ListN.{replicate}
 use borrow.Author.Tests.{ltb-true, le-leb, lt-ltb, eqb-true, eq-eqb}
-use Rattle.keys.specs.declared.refusal.Answer.the-variants.{Done}
-use Rattle.keys.specs.declared.settings.Settings.{Settings}
-use Rattle.keys.specs.Settings.{settingsFit}
+use Rattle.questions.specs.declared.refusal.Answer.the-variants.{Done}
+use Rattle.questions.specs.declared.settings.Settings.{Settings}
+use Rattle.questions.specs.Settings.{settingsFit}
 use Rattle.keys.specs.Suites.{widthOf}
 use Rattle.keys.specs.Octets.{allZero}
 use Rattle.keys.specs.Traffic.{keyFits, follows, pairFits}
-use Rattle.keys.proofs.TestLaws.{both}
+use Rattle.questions.proofs.TestLaws.{both}
 use Rattle.wire.specs.declared.fields.Fields.{Fields}
 use Rattle.wire.specs.declared.fields.Params.{Params}
 use Rattle.wire.specs.declared.fields.Receiver.the-variants.{Modem as AtModem}
@@ -25,7 +25,7 @@ use Rattle.wire.specs.Limits.{headFits}
 use Rattle.wire.proofs.FieldsFit.{pair-ok}
 use Rattle.wire.proofs.PartsWritten.{PairFit}
 use Rattle.machines.specs.Transitions.{D, blank, authorizationNext}
-use Rattle.machines.specs.Tek.{pairOf}
+use Rattle.tek_machine.specs.Tek.{pairOf}
 use Rattle.modem_steps.specs.declared.state.Modem.{Modem}
 use Rattle.modem_steps.specs.declared.state.Work.{Work}
 use Rattle.modem_steps.specs.State.{slotAt, starting, freshOf}

@@ -8,19 +8,19 @@ use lib.Dec.{ltb, leb, eqb}
 use lib.ListN.{length, getD, set, length-set}
 use lib.Seq.{getD-set-same, getD-set-other}
 use borrow.Author.Tests.{leb-false, ltb-true, lt-ltb, le-ltb, eqb-true, eqb-false, eq-eqb}
-use Rattle.keys.specs.declared.settings.Waits.{Waits}
+use Rattle.questions.specs.declared.settings.Waits.{Waits}
 use Rattle.keys.specs.Octets.{allZero}
-use Rattle.keys.proofs.TestLaws.{both}
-use Rattle.keys.proofs.ListLaws.{IfLt, if-lt}
+use Rattle.questions.proofs.TestLaws.{both}
+use Rattle.questions.proofs.ListLaws.{IfLt, if-lt}
 use Rattle.wire.specs.declared.fields.Descriptor.{Descriptor}
 use Rattle.wire.specs.declared.fields.Fields.{Fields}
 use Rattle.wire.specs.Fields.{noParams}
 use Rattle.wire.proofs.HoldsLaws.{never}
 use Rattle.wire.proofs.PartsWritten.{DescriptorFit}
-use Rattle.machines.specs.declared.tek.Tek.{Tek}
-use Rattle.machines.specs.declared.tek.TekStep.{TekStep}
+use Rattle.tek_machine.specs.declared.tek.Tek.{Tek}
+use Rattle.tek_machine.specs.declared.tek.TekStep.{TekStep}
 use Rattle.machines.specs.Transitions.{A, D}
-use Rattle.machines.specs.Tek.{tekStepOf}
+use Rattle.tek_machine.specs.Tek.{tekStepOf}
 use Rattle.modem_steps.specs.declared.state.Modem.{Modem}
 use Rattle.modem_steps.specs.declared.state.Work.{Work}
 use Rattle.modem_steps.specs.State.{pastTek, slotAt, starting}

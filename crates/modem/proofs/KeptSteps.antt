@@ -10,14 +10,14 @@ use lib.Seq.{getD-set-same, getD-set-other, set-out}
 use borrow.Author.Tests.{eqb-true, eqb-false}
 use Rattle.keys.specs.declared.numbers.AkNumber.{AkNumber}
 use Rattle.keys.specs.Suites.{widthOf}
-use Rattle.keys.proofs.ListLaws.{IfLt, if-lt}
+use Rattle.questions.proofs.ListLaws.{IfLt, if-lt}
 use Rattle.wire.specs.declared.fields.Params.{Params}
 use Rattle.wire.specs.Fields.{noParams}
 use Rattle.wire.proofs.HoldsLaws.{never}
-use Rattle.machines.specs.declared.tek.Tek.{Tek}
+use Rattle.tek_machine.specs.declared.tek.Tek.{Tek}
 use Rattle.machines.specs.Transitions.{D}
 use Rattle.machines.specs.Timers.{isDue}
-use Rattle.machines.specs.Tek.{pairOf, tekStepOf}
+use Rattle.tek_machine.specs.Tek.{pairOf, tekStepOf}
 use Rattle.authorization_machine.specs.Authorization.{AuthReady}
 use Rattle.modem_steps.specs.declared.state.Modem.{Modem}
 use Rattle.modem_steps.specs.declared.state.Work.{Work}

@@ -7,25 +7,25 @@ use mathlib.Core.Logic.{_⊎_, inl, inr}
 use mathlib.Core.List.{List, _++_}
 use Prim.Native.Nat.{ℕ, _≤_}
 use borrow.Author.Tests.{le-leb, eqb-true}
-use Rattle.keys.specs.declared.refusal.Answer.{Answer}
-use Rattle.keys.specs.declared.refusal.Answer.the-variants.{Done, Refused}
-use Rattle.keys.specs.declared.refusal.Refusal.the-variants.{WrongIdentifier}
-use Rattle.keys.specs.Questions.{firstNo}
+use Rattle.questions.specs.declared.refusal.Answer.{Answer}
+use Rattle.questions.specs.declared.refusal.Answer.the-variants.{Done, Refused}
+use Rattle.questions.specs.declared.refusal.Refusal.the-variants.{WrongIdentifier}
+use Rattle.questions.specs.Questions.{firstNo}
 use Rattle.keys.specs.declared.numbers.AkNumber.{AkNumber}
 use Rattle.wire.specs.declared.fields.Params.{Params}
 use Rattle.wire.specs.declared.fields.Receiver.the-variants.{Modem as AtModem}
 use Rattle.wire.specs.Messages.{question9, messageAnswer}
-use Rattle.keys.proofs.AnswerLaws.{no-refused}
+use Rattle.questions.proofs.AnswerLaws.{no-refused}
 use Rattle.wire.proofs.MessageAnswers.{answer-done}
 use Rattle.authorization_machine.specs.declared.authorization.Authorization.{Authorization}
 use Rattle.authorization_machine.specs.declared.authorization.AuthMoment.{AuthMoment}
 use Rattle.authorization_machine.specs.declared.authorization.AuthStep.{AuthStep}
-use Rattle.machines.specs.declared.tek.Request.{Request}
-use Rattle.machines.specs.declared.tek.Tek.{Tek}
-use Rattle.machines.specs.declared.tek.TekMoment.{TekMoment}
-use Rattle.machines.specs.declared.tek.TekStep.{TekStep}
+use Rattle.tek_machine.specs.declared.tek.Request.{Request}
+use Rattle.tek_machine.specs.declared.tek.Tek.{Tek}
+use Rattle.tek_machine.specs.declared.tek.TekMoment.{TekMoment}
+use Rattle.tek_machine.specs.declared.tek.TekStep.{TekStep}
 use Rattle.machines.specs.Transitions.{B, D, E, blank, nextIn, authorizationTransitions, tekTransitions, authorizationNext, tekNext}
-use Rattle.machines.specs.Tek.{nothing, keyRequest, counterAfter, identifierAfter, tekSends, tekMoved, tekStays, tekStepOf}
+use Rattle.tek_machine.specs.Tek.{nothing, keyRequest, counterAfter, identifierAfter, tekSends, tekMoved, tekStays, tekStepOf}
 use Rattle.authorization_machine.specs.Authorization.{authIdentifier, authCounter, requestsOf, authMoved, authStays, authStepOf}
 use Rattle.modem_steps.specs.declared.state.Modem.{Modem}
 use Rattle.modem_steps.specs.declared.state.Work.{Work}
@@ -130,7 +130,7 @@ module _ (a : Authorization) (event : ℕ) (x : AuthMoment) where
       timeout-requests m y (w .1) .0 ∙ ap (authRequest (m .identifier)) same ∙ sym (w .0)
 
 -- ---- through the call: a Key Reply to a machine in D is refused and changes nothing
-answer-of : (a : Answer) (m : Modem) (w : Work) → resultOf a m w .called .answer ≡ a
+pub answer-of : (a : Answer) (m : Modem) (w : Work) → resultOf a m w .called .answer ≡ a
 answer-of Done m w = refl
 answer-of (Refused r) m w = refl
 

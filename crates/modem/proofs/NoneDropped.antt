@@ -12,21 +12,19 @@ use borrow.Author.Tests.{lt-leb}
 use Rattle.keys.specs.declared.numbers.AkNumber.{AkNumber}
 use Rattle.wire.specs.declared.fields.Params.{Params}
 use Rattle.wire.specs.Fields.{noParams}
-use Rattle.machines.specs.declared.tek.Request.{Request}
-use Rattle.machines.specs.declared.tek.TekStep.{TekStep}
+use Rattle.tek_machine.specs.declared.tek.Request.{Request}
 use Rattle.machines.specs.Timers.{isDue}
-use Rattle.machines.specs.Tek.{tekStepOf}
+use Rattle.tek_machine.specs.Tek.{tekStepOf}
 use Rattle.authorization_machine.specs.Authorization.{authStepOf}
 use Rattle.modem_steps.specs.declared.state.Modem.{Modem}
 use Rattle.modem_steps.specs.declared.state.Out.{Out}
 use Rattle.modem_steps.specs.declared.state.Work.{Work}
 use Rattle.modem_steps.specs.State.{withClock, slotAt, pushed, starting}
 use Rattle.modem_steps.specs.Slots.{tekMoment, steppedAt, toldReply, told, toldAll}
-use Rattle.modem_steps.specs.Relist.{appended}
 use Rattle.modem_steps.specs.Machine.{authMoment, authStepped, authTold, plainEvent}
 use Rattle.modem_steps.specs.Clock.{authTimerEvent, tekTimerEvent, authFired, slotFired, slotsFired, clocked}
 use Rattle.modem.proofs.OutLaws.{auth-informs, pushed-fits}
-use Rattle.modem.proofs.SentLaws.{Sayable, Sends, sends-wider, sends-either, sends-none, told-sends, plain-sends, all-sends, Listing}
+use Rattle.modem.proofs.SentLaws.{Sayable, Sends, sends-wider, sends-either, sends-none, told-sends, plain-sends, all-sends}
 
 -- The messages that have gone out, and those of one sending: none or one
 abbrev pub messagesOf : Out → List Request
@@ -57,12 +55,6 @@ pub told-messages : (w : Work) (i event : ℕ) (older newer : Params) (n : ℕ) 
 unfolding toldReply steppedAt
 told-messages w i event older newer n room f =
     pushed-messages (w .out) (tekStepOf (slotAt (w .modem) i) event (tekMoment (w .modem)) older newer .sends) (omega (arith, f .out .count)) (f .out .six)
-
--- a machine that goes to a free slot after a Reply
-pub appended-messages : (w : Work) (s : TekStep) → w .modem .used < 4 → Listing w → messagesOf (appended w s .out) ≡ messagesOf (w .out) ++ sentBy (s .sends)
-unfolding appended
-appended-messages w s free l =
-    simp (lt-leb 4 (w .modem .used) free) (pushed-messages (w .out) (s .sends) (omega (arith, l .sends .out .count)) (l .sends .out .six))
 
 -- ---- the authorization machine takes an event: Authentication Information goes before the Request
 abbrev pub authSent : Modem → ℕ → AkNumber → ℕ → List Request

@@ -10,7 +10,7 @@ use lib.Seq.{getD-set-same, getD-set-other}
 use borrow.Author.Tests.{le-leb, lt-leb, eq-eqb}
 use Rattle.keys.specs.declared.numbers.AkNumber.{AkNumber}
 use Rattle.keys.specs.Octets.{allZero, zeroPast}
-use Rattle.keys.proofs.ListLaws.{IfLt, if-lt}
+use Rattle.questions.proofs.ListLaws.{IfLt, if-lt}
 use Rattle.wire.specs.declared.fields.Params.{Params}
 use Rattle.wire.specs.Attributes.{two, attrOctets, octets}
 use Rattle.wire.specs.Ranges.{neededOf, among, needs}
@@ -18,11 +18,11 @@ use Rattle.wire.specs.Limits.{headFits, keyOctetsZero, paramsZero, descriptorZe
 use Rattle.wire.specs.Writing.{itemsOfType, itemsOfTypes, itemsOf, message, messageOf}
 use Rattle.authorization_machine.specs.declared.authorization.Authorization.{Authorization}
 use Rattle.authorization_machine.specs.declared.authorization.AuthMoment.{AuthMoment}
-use Rattle.machines.specs.declared.tek.Request.{Request}
-use Rattle.machines.specs.declared.tek.Tek.{Tek}
-use Rattle.machines.specs.declared.tek.TekMoment.{TekMoment}
+use Rattle.tek_machine.specs.declared.tek.Request.{Request}
+use Rattle.tek_machine.specs.declared.tek.Tek.{Tek}
+use Rattle.tek_machine.specs.declared.tek.TekMoment.{TekMoment}
 use Rattle.machines.specs.Transitions.{B, blank, tekNext, authorizationNext}
-use Rattle.machines.specs.Tek.{nothing, keyRequest, sendsInto, identifierAfter, tekSends, tekMoved, tekStays, tekStepOf}
+use Rattle.tek_machine.specs.Tek.{nothing, keyRequest, sendsInto, identifierAfter, tekSends, tekMoved, tekStays, tekStepOf}
 use Rattle.authorization_machine.specs.Authorization.{requestsInto, authIdentifier, informsOf, requestsOf, authMoved, authStays, authStepOf}
 use Rattle.modem_steps.specs.declared.state.Out.{Out}
 use Rattle.modem_steps.specs.State.{noOut, pushed}

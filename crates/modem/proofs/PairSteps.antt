@@ -9,21 +9,21 @@ use lib.ListN.{length, getD, set, List·getD-eq-default}
 use lib.Seq.{getD-set-same, getD-set-other, set-out}
 use borrow.Author.Tests.{ltb-true, eqb-true, eqb-false}
 use Rattle.keys.specs.declared.numbers.AkNumber.{AkNumber}
-use Rattle.keys.specs.declared.settings.Settings.{Settings}
-use Rattle.keys.proofs.TestLaws.{both}
-use Rattle.keys.proofs.ListLaws.{IfLt, if-lt}
+use Rattle.questions.specs.declared.settings.Settings.{Settings}
+use Rattle.questions.proofs.TestLaws.{both}
+use Rattle.questions.proofs.ListLaws.{IfLt, if-lt}
 use Rattle.wire.specs.declared.fields.Fields.{Fields}
 use Rattle.wire.specs.declared.fields.Params.{Params}
 use Rattle.wire.specs.Fields.{noParams}
 use Rattle.wire.proofs.HoldsLaws.{never}
 use Rattle.authorization_machine.specs.declared.authorization.Authorization.{Authorization}
-use Rattle.machines.specs.declared.tek.Pair.{Pair}
-use Rattle.machines.specs.declared.tek.Tek.{Tek}
-use Rattle.machines.specs.declared.tek.TekMoment.{TekMoment}
-use Rattle.machines.specs.declared.tek.TekStep.{TekStep}
+use Rattle.tek_machine.specs.declared.tek.Pair.{Pair}
+use Rattle.tek_machine.specs.declared.tek.Tek.{Tek}
+use Rattle.tek_machine.specs.declared.tek.TekMoment.{TekMoment}
+use Rattle.tek_machine.specs.declared.tek.TekStep.{TekStep}
 use Rattle.machines.specs.Transitions.{A, D, blank, authorizationNext, tekNext}
 use Rattle.machines.specs.Timers.{isDue}
-use Rattle.machines.specs.Tek.{noPair, pairOf, pairAfter, tekMoved, tekStays, tekStepOf}
+use Rattle.tek_machine.specs.Tek.{noPair, pairOf, pairAfter, tekMoved, tekStays, tekStepOf}
 use Rattle.modem_steps.specs.declared.state.Modem.{Modem}
 use Rattle.modem_steps.specs.declared.state.Work.{Work}
 use Rattle.modem_steps.specs.State.{withMachines, withClock, pastTek, slotAt, starting, freshOf}

@@ -8,14 +8,14 @@ use lib.Dec.{eqb, ltb}
 use lib.ListN.{length, getD, length-append}
 use lib.Seq.{getD-at}
 use borrow.Author.Tests.{lt-ltb}
-use Rattle.keys.proofs.ListLaws.{Each, each-nil, each-snoc, snoc-last, IfLt, if-lt}
+use Rattle.questions.proofs.ListLaws.{Each, each-nil, each-snoc, snoc-last, IfLt, if-lt}
 use Rattle.wire.specs.declared.fields.Fields.{Fields}
 use Rattle.wire.specs.Fields.{noParams}
 use Rattle.wire.specs.Messages.{isNone}
-use Rattle.machines.specs.declared.tek.Tek.{Tek}
-use Rattle.machines.specs.declared.tek.TekMoment.{TekMoment}
+use Rattle.tek_machine.specs.declared.tek.Tek.{Tek}
+use Rattle.tek_machine.specs.declared.tek.TekMoment.{TekMoment}
 use Rattle.machines.specs.Transitions.{blank, tekNext}
-use Rattle.machines.specs.Tek.{tekMoved, tekStays, tekStepOf}
+use Rattle.tek_machine.specs.Tek.{tekMoved, tekStays, tekStepOf}
 use Rattle.modem_steps.specs.State.{pastTek}
 use Rattle.modem_steps.specs.Relist.{descriptorAt, freshTek}
 use Rattle.modem_limits.specs.Limits.{saidsOfTeks}

@@ -8,11 +8,11 @@ use native.Mathlib.Omega.{arith}
 use lib.Dec.{eqb, ltb}
 use lib.ListN.{length, length-append}
 use borrow.Author.Tests.{ltb-true, eqb-true}
-use Rattle.keys.proofs.ListLaws.{Each, each-nil, each-snoc, snoc-last, IfLt, if-lt}
-use Rattle.keys.proofs.TestLaws.{both, either}
+use Rattle.questions.proofs.ListLaws.{Each, each-nil, each-snoc, snoc-last, IfLt, if-lt}
+use Rattle.questions.proofs.TestLaws.{both, either}
 use Rattle.wire.specs.declared.fields.Fields.{Fields}
 use Rattle.wire.specs.Messages.{isNone}
-use Rattle.machines.specs.declared.tek.Tek.{Tek}
+use Rattle.tek_machine.specs.declared.tek.Tek.{Tek}
 use Rattle.machines.specs.Transitions.{A}
 use Rattle.modem_steps.specs.declared.state.Modem.{Modem}
 use Rattle.modem_steps.specs.State.{slotAt}

@@ -7,17 +7,17 @@ use native.Mathlib.Omega.{arith}
 use lib.Dec.{eqb, ltb, leb}
 use lib.ListN.{length, getD, take, length-append}
 use borrow.Author.Tests.{eq-eqb, ne-eqb, eqb-true, eqb-false}
-use Rattle.keys.proofs.ListLaws.{Each, each-nil, of-four, IfLt, if-lt}
+use Rattle.questions.proofs.ListLaws.{Each, each-nil, of-four, IfLt, if-lt}
 use Rattle.wire.specs.declared.fields.Fields.{Fields}
 use Rattle.wire.specs.Fields.{noParams}
 use Rattle.wire.specs.Messages.{isNone}
 use Rattle.wire.proofs.HoldsLaws.{never}
-use Rattle.machines.specs.declared.tek.Request.{Request}
-use Rattle.machines.specs.declared.tek.Tek.{Tek}
-use Rattle.machines.specs.declared.tek.TekMoment.{TekMoment}
-use Rattle.machines.specs.declared.tek.TekStep.{TekStep}
+use Rattle.tek_machine.specs.declared.tek.Request.{Request}
+use Rattle.tek_machine.specs.declared.tek.Tek.{Tek}
+use Rattle.tek_machine.specs.declared.tek.TekMoment.{TekMoment}
+use Rattle.tek_machine.specs.declared.tek.TekStep.{TekStep}
 use Rattle.machines.specs.Transitions.{B, C, D, blank, nextIn, authorizationTransitions}
-use Rattle.machines.specs.Tek.{nothing}
+use Rattle.tek_machine.specs.Tek.{nothing}
 use Rattle.authorization_machine.specs.declared.authorization.Authorization.{Authorization}
 use Rattle.authorization_machine.specs.declared.authorization.AuthMoment.{AuthMoment}
 use Rattle.authorization_machine.specs.declared.authorization.AuthStep.{AuthStep}

@@ -12,12 +12,12 @@ use borrow.Author.Tests.{lt-leb}
 use Rattle.wire.specs.declared.fields.Fields.{Fields}
 use Rattle.wire.specs.Fields.{noParams}
 use Rattle.wire.specs.Messages.{isNone}
-use Rattle.machines.specs.declared.tek.Request.{Request}
-use Rattle.machines.specs.declared.tek.Tek.{Tek}
-use Rattle.machines.specs.declared.tek.TekMoment.{TekMoment}
-use Rattle.machines.specs.declared.tek.TekStep.{TekStep}
+use Rattle.tek_machine.specs.declared.tek.Request.{Request}
+use Rattle.tek_machine.specs.declared.tek.Tek.{Tek}
+use Rattle.tek_machine.specs.declared.tek.TekMoment.{TekMoment}
+use Rattle.tek_machine.specs.declared.tek.TekStep.{TekStep}
 use Rattle.machines.specs.Transitions.{A}
-use Rattle.machines.specs.Tek.{tekStepOf}
+use Rattle.tek_machine.specs.Tek.{tekStepOf}
 use Rattle.modem_steps.specs.declared.state.Modem.{Modem}
 use Rattle.modem_steps.specs.declared.state.Out.{Out}
 use Rattle.modem_steps.specs.declared.state.Work.{Work}

@@ -8,11 +8,11 @@ use lib.Dec.{eqb}
 use lib.ListN.{length, getD, take, replicate, length-append}
 use lib.Seq.{getD-take}
 use borrow.Author.Tests.{eq-eqb}
-use Rattle.keys.specs.declared.refusal.Answer.{Answer}
-use Rattle.keys.specs.declared.refusal.Answer.the-variants.{Done, Refused}
-use Rattle.keys.specs.Questions.{firstNo}
-use Rattle.keys.proofs.ListLaws.{Each, each-nil}
-use Rattle.keys.proofs.TestLaws.{both}
+use Rattle.questions.specs.declared.refusal.Answer.{Answer}
+use Rattle.questions.specs.declared.refusal.Answer.the-variants.{Done, Refused}
+use Rattle.questions.specs.Questions.{firstNo}
+use Rattle.questions.proofs.ListLaws.{Each, each-nil}
+use Rattle.questions.proofs.TestLaws.{both}
 use Rattle.wire.specs.declared.fields.Descriptor.{Descriptor}
 use Rattle.wire.specs.declared.fields.Fields.{Fields}
 use Rattle.wire.specs.declared.fields.Receiver.the-variants.{Modem as AtModem}
@@ -22,9 +22,9 @@ use Rattle.wire.specs.Fields.{noDescriptor, fieldsOf}
 use Rattle.wire.specs.Reading.{takenOf}
 use Rattle.wire.specs.Limits.{headFits, saidsOf}
 use Rattle.wire.proofs.FieldsFit.{descriptors-ok}
-use Rattle.machines.specs.declared.tek.Request.{Request}
-use Rattle.machines.specs.declared.tek.Tek.{Tek}
-use Rattle.machines.specs.declared.tek.TekStep.{TekStep}
+use Rattle.tek_machine.specs.declared.tek.Request.{Request}
+use Rattle.tek_machine.specs.declared.tek.Tek.{Tek}
+use Rattle.tek_machine.specs.declared.tek.TekStep.{TekStep}
 use Rattle.machines.specs.Transitions.{B, D}
 use Rattle.modem_steps.specs.declared.state.Modem.{Modem}
 use Rattle.modem_steps.specs.declared.state.Work.{Work}

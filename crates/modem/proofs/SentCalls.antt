@@ -5,13 +5,13 @@ use mathlib.Core.List.{List, [], _∷_, _++_}
 use Prim.Native.Nat.{ℕ, zero, suc, _<_}
 use native.Mathlib.Omega.{arith}
 use lib.ListN.{getD, take}
-use Rattle.keys.specs.declared.refusal.Answer.{Answer}
-use Rattle.keys.specs.declared.refusal.Answer.the-variants.{Done, Refused}
-use Rattle.keys.specs.Questions.{firstNo}
-use Rattle.keys.proofs.ListLaws.{Each, each-nil, each-cons}
-use Rattle.keys.proofs.AnswerLaws.{done-met}
-use Rattle.machines.specs.declared.tek.Request.{Request}
-use Rattle.machines.specs.Tek.{nothing}
+use Rattle.questions.specs.declared.refusal.Answer.{Answer}
+use Rattle.questions.specs.declared.refusal.Answer.the-variants.{Done, Refused}
+use Rattle.questions.specs.Questions.{firstNo}
+use Rattle.questions.proofs.ListLaws.{Each, each-nil, each-cons}
+use Rattle.questions.proofs.AnswerLaws.{done-met}
+use Rattle.tek_machine.specs.declared.tek.Request.{Request}
+use Rattle.tek_machine.specs.Tek.{nothing}
 use Rattle.modem_steps.specs.declared.state.Modem.{Modem}
 use Rattle.modem_steps.specs.declared.state.Out.{Out}
 use Rattle.modem_steps.specs.declared.state.Work.{Work}

@@ -2,7 +2,7 @@
 use mathlib.Core.Path.{_≡_, refl, sym, ap, _∙_, subst}
 use mathlib.Core.List.{List, [], _++_, append-nil}
 use Prim.Native.Nat.{ℕ}
-use Rattle.keys.specs.declared.refusal.Answer.the-variants.{Done}
+use Rattle.questions.specs.declared.refusal.Answer.the-variants.{Done}
 use Rattle.wire.specs.declared.fields.Reading.{Reading}
 use Rattle.wire.specs.declared.fields.Receiver.{Receiver}
 use Rattle.wire.specs.declared.fields.Receiver.the-variants.{HeadEnd}
@@ -11,7 +11,7 @@ use Rattle.wire.specs.Reading.{readOf}
 use Rattle.wire.specs.Writing.{noDigest}
 use Rattle.wire.proofs.FieldsFit.{Shaped}
 use Rattle.wire.proofs.WrittenRead.{keyPlace, digestPlace, written-read}
-use Rattle.machines.specs.declared.tek.Request.{Request}
+use Rattle.tek_machine.specs.declared.tek.Request.{Request}
 use Rattle.modem.specs.Messages.{requestFields, requestOctets, RequestFits}
 
 -- It is one that the head-end receives

@@ -10,17 +10,17 @@ use lib.ListN.{length, set, take}
 use lib.Seq.{take-suc-set, take-all, set-out}
 use borrow.Author.Tests.{eq-eqb}
 use Rattle.keys.specs.declared.numbers.AkNumber.{AkNumber}
-use Rattle.keys.proofs.ListLaws.{Each, each-nil, each-snoc, IfLt, if-lt}
+use Rattle.questions.proofs.ListLaws.{Each, each-nil, each-snoc, IfLt, if-lt}
 use Rattle.wire.specs.declared.fields.Fields.{Fields}
 use Rattle.wire.specs.declared.fields.Params.{Params}
 use Rattle.wire.specs.Fields.{noParams}
 use Rattle.wire.specs.Messages.{receiverOf}
-use Rattle.machines.specs.declared.tek.Request.{Request}
-use Rattle.machines.specs.declared.tek.Tek.{Tek}
-use Rattle.machines.specs.declared.tek.TekMoment.{TekMoment}
+use Rattle.tek_machine.specs.declared.tek.Request.{Request}
+use Rattle.tek_machine.specs.declared.tek.Tek.{Tek}
+use Rattle.tek_machine.specs.declared.tek.TekMoment.{TekMoment}
 use Rattle.machines.specs.Transitions.{A, B, D, blank, tekNext, authorizationNext}
 use Rattle.machines.specs.Timers.{isDue}
-use Rattle.machines.specs.Tek.{nothing, keyRequest, sendsInto, identifierAfter, tekSends, tekMoved, tekStays, tekStepOf}
+use Rattle.tek_machine.specs.Tek.{nothing, keyRequest, sendsInto, identifierAfter, tekSends, tekMoved, tekStays, tekStepOf}
 use Rattle.authorization_machine.specs.declared.authorization.Authorization.{Authorization}
 use Rattle.authorization_machine.specs.declared.authorization.AuthMoment.{AuthMoment}
 use Rattle.authorization_machine.specs.Authorization.{requestsInto, authIdentifier, informsOf, requestsOf, authMoved, authStays, authStepOf}

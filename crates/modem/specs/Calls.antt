@@ -5,13 +5,13 @@ use mathlib.Core.List.{List, [], _∷_, _++_}
 use lib.Dec.{leb}
 use lib.ListN.{length}
 use Rattle.keys.specs.Addresses.{saidFits, addressFits}
-use Rattle.keys.specs.declared.refusal.Answer.{Answer}
-use Rattle.keys.specs.declared.refusal.Answer.the-variants.{Done, Refused}
-use Rattle.keys.specs.declared.refusal.Refusal.{Refusal}
-use Rattle.keys.specs.declared.refusal.Refusal.the-variants.{OutOfLimits, WrongLength, ClockOutOfOrder}
-use Rattle.keys.specs.declared.settings.Settings.{Settings}
-use Rattle.keys.specs.Questions.{Question, firstNo}
-use Rattle.keys.specs.Settings.{settingsFit, noSettings}
+use Rattle.questions.specs.declared.refusal.Answer.{Answer}
+use Rattle.questions.specs.declared.refusal.Answer.the-variants.{Done, Refused}
+use Rattle.questions.specs.declared.refusal.Refusal.{Refusal}
+use Rattle.questions.specs.declared.refusal.Refusal.the-variants.{OutOfLimits, WrongLength, ClockOutOfOrder}
+use Rattle.questions.specs.declared.settings.Settings.{Settings}
+use Rattle.questions.specs.Questions.{Question, firstNo}
+use Rattle.questions.specs.Settings.{settingsFit, noSettings}
 use Rattle.modem_steps.specs.declared.state.Modem.{Modem}
 use Rattle.modem_steps.specs.declared.state.Work.{Work}
 use Rattle.modem_steps.specs.declared.state.Called.{Called}
@@ -30,12 +30,12 @@ pub record Result : Type 0 where
 abbrev pub doneCall : Work → Called
 doneCall w = record { answer = Done; modem = w .modem; count = length (outOctets (w .out)) }
 
-abbrev pub refusedCall : Refusal → Modem → Called
-refusedCall r m = record { answer = Refused r; modem = m; count = 0 }
-
--- ---- a refusal that is handed on
+-- An answer with the modem as it was
 abbrev pub answeredCall : Answer → Modem → Called
 answeredCall a m = record { answer = a; modem = m; count = 0 }
+
+abbrev pub refusedCall : Refusal → Modem → Called
+refusedCall r m = answeredCall (Refused r) m
 
 abbrev pub resultOf : Answer → Modem → Work → Result
 resultOf Done m w = record { called = doneCall w; written = outOctets (w .out) }

@@ -5,24 +5,24 @@ use mathlib.Core.List.{List}
 use Prim.Native.Nat.{ℕ}
 use lib.Dec.{leb, eqb}
 use Rattle.keys.specs.declared.numbers.TekNumber.{TekNumber}
-use Rattle.keys.specs.declared.refusal.Answer.{Answer}
-use Rattle.keys.specs.declared.refusal.Answer.the-variants.{Done, Refused}
-use Rattle.keys.specs.declared.refusal.Refusal.the-variants.{WrongLength, ClockOutOfOrder}
-use Rattle.keys.specs.Questions.{firstNo}
+use Rattle.questions.specs.declared.refusal.Answer.{Answer}
+use Rattle.questions.specs.declared.refusal.Answer.the-variants.{Done, Refused}
+use Rattle.questions.specs.declared.refusal.Refusal.the-variants.{WrongLength, ClockOutOfOrder}
+use Rattle.questions.specs.Questions.{firstNo}
 use Rattle.keys.specs.Sealing.{oneMore}
-use Rattle.keys.proofs.TestLaws.{both}
-use Rattle.machines.specs.declared.tek.Pair.{Pair}
+use Rattle.questions.proofs.TestLaws.{both}
+use Rattle.tek_machine.specs.declared.tek.Pair.{Pair}
 use Rattle.modem_steps.specs.declared.state.Modem.{Modem}
-use Rattle.modem_steps.specs.declared.state.Work.{Work}
 use Rattle.modem_steps.specs.State.{starting}
 use Rattle.modem_steps.specs.Slots.{told, slotOfSaid}
 use Rattle.modem_receive.specs.Receive.{isKnown}
 use Rattle.modem_steps.specs.Clock.{clocked}
 use Rattle.modem_limits.specs.Limits.{slotFits, modemFits}
-use Rattle.modem.specs.Calls.{resultOf, establishedOf, reauthOf, clockFits, clockOf, receiveOf}
+use Rattle.modem.specs.Calls.{establishedOf, reauthOf, clockFits, clockOf, receiveOf}
 use Rattle.modem_frames.specs.Frames.{withCounts, countedBy, openOf}
 use Rattle.modem_limits.proofs.LimitsLaws.{limits-of, fits-by}
 use Rattle.modem.proofs.KeptSteps.{plain-told-kept}
+use Rattle.modem.proofs.ModemRows.{answer-of}
 use Rattle.modem.proofs.CallLaws.{clockQuestions, established-good, reauth-good, clock-good, receive-good}
 use Rattle.modem.proofs.PairSteps.{AllPairs, SameRest, starting-carries, told-carries}
 use Rattle.modem_frames.proofs.FrameLaws.{known-inside, open-by}
@@ -113,13 +113,9 @@ module _ (m : Modem) (lent : ℕ) where
   receive-fits s digest e = receive-good m lent e s digest .fits
 
 -- ---- the clock call's answer
-result-answer : (a : Answer) (m : Modem) (w : Work) → resultOf a m w .called .answer ≡ a
-result-answer Done m w = refl
-result-answer (Refused r) m w = refl
-
 clock-asks : (m : Modem) (t lent : ℕ) → clockOf m t lent .called .answer ≡ firstNo (clockQuestions m t lent)
 unfolding clockOf
-clock-asks m t lent = result-answer (firstNo (clockQuestions m t lent)) m (clocked m t)
+clock-asks m t lent = answer-of (firstNo (clockQuestions m t lent)) m (clocked m t)
 
 -- within the limits it depends on the clock and on the slice's length alone
 abbrev pub clockSays : ℕ → ℕ → ℕ → Answer

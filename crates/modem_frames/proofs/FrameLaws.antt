@@ -9,22 +9,22 @@ use lib.Dec.{leb, ltb, eqb}
 use borrow.Author.Tests.{ltb-true, leb-true, lt-ltb, le-leb, eqb-true}
 use Rattle.keys.specs.declared.numbers.TekNumber.{TekNumber}
 use Rattle.keys.specs.declared.traffic.TrafficKey.{TrafficKey}
-use Rattle.keys.specs.declared.refusal.Answer.{Answer}
-use Rattle.keys.specs.declared.refusal.Answer.the-variants.{Done, Refused}
-use Rattle.keys.specs.declared.refusal.Refusal.{Refusal}
-use Rattle.keys.specs.declared.refusal.Refusal.the-variants.{OutOfLimits, WrongLength, UnknownSaid, NoKeyForFrame, NoKeyToSeal}
+use Rattle.questions.specs.declared.refusal.Answer.{Answer}
+use Rattle.questions.specs.declared.refusal.Answer.the-variants.{Done, Refused}
+use Rattle.questions.specs.declared.refusal.Refusal.{Refusal}
+use Rattle.questions.specs.declared.refusal.Refusal.the-variants.{OutOfLimits, WrongLength, UnknownSaid, NoKeyForFrame, NoKeyToSeal}
 use Rattle.keys.specs.Numbers.{tekInRange, sameTek}
 use Rattle.keys.specs.Octets.{zeroPast}
 use Rattle.keys.specs.Suites.{widthOf}
-use Rattle.keys.specs.Questions.{Question}
-use Rattle.keys.specs.Refusal.{answerNumber}
+use Rattle.questions.specs.Questions.{Question}
+use Rattle.questions.specs.Refusal.{answerNumber}
 use Rattle.keys.specs.Traffic.{keyFits, pairFits}
 use Rattle.keys.specs.Frame.{serves, openingOf}
 use Rattle.keys.specs.Sealing.{keyOut, sealedFor, openedBy, oneMore}
-use Rattle.keys.proofs.TestLaws.{both}
-use Rattle.keys.proofs.AnswerLaws.{done-met}
+use Rattle.questions.proofs.TestLaws.{both}
+use Rattle.questions.proofs.AnswerLaws.{done-met}
 use Rattle.wire.proofs.HoldsLaws.{never}
-use Rattle.machines.specs.declared.tek.Pair.{Pair}
+use Rattle.tek_machine.specs.declared.tek.Pair.{Pair}
 use Rattle.machines.specs.Transitions.{D}
 use Rattle.modem_steps.specs.declared.state.Modem.{Modem}
 use Rattle.modem_steps.specs.State.{slotAt}

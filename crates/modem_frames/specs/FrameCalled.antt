@@ -2,8 +2,8 @@
 use mathlib.Core.Bool.{cond}
 use Prim.Native.Nat.{ℕ}
 use lib.ListN.{length}
-use Rattle.keys.specs.declared.refusal.Answer.{Answer}
-use Rattle.machines.specs.declared.tek.Tek.{Tek}
+use Rattle.questions.specs.declared.refusal.Answer.{Answer}
+use Rattle.tek_machine.specs.declared.tek.Tek.{Tek}
 use Rattle.modem_steps.specs.declared.state.Modem.{Modem}
 use Rattle.modem_steps.specs.State.{noTek}
 use Rattle.modem_receive.specs.Receive.{isKnown}

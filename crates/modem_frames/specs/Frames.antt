@@ -5,17 +5,17 @@ use Prim.Native.Nat.{ℕ}
 use lib.Dec.{leb, ltb, eqb}
 use Rattle.keys.specs.Addresses.{saidFits, addressFits}
 use Rattle.keys.specs.declared.numbers.TekNumber.{TekNumber}
-use Rattle.keys.specs.declared.refusal.Answer.{Answer}
-use Rattle.keys.specs.declared.refusal.Answer.the-variants.{Done, Refused}
-use Rattle.keys.specs.declared.refusal.Refusal.the-variants.{OutOfLimits, WrongLength, UnknownSaid, NoKeyForFrame, NoKeyToSeal}
+use Rattle.questions.specs.declared.refusal.Answer.{Answer}
+use Rattle.questions.specs.declared.refusal.Answer.the-variants.{Done, Refused}
+use Rattle.questions.specs.declared.refusal.Refusal.the-variants.{OutOfLimits, WrongLength, UnknownSaid, NoKeyForFrame, NoKeyToSeal}
 use Rattle.keys.specs.Numbers.{tekInRange}
 use Rattle.keys.specs.Suites.{widthOf}
-use Rattle.keys.specs.Questions.{firstNo}
-use Rattle.keys.specs.Refusal.{answerNumber}
+use Rattle.questions.specs.Questions.{firstNo}
+use Rattle.questions.specs.Refusal.{answerNumber}
 use Rattle.keys.specs.Frame.{serves, openingOf}
 use Rattle.keys.specs.Sealing.{KeyOut, noOut, Sealed, sealedFor, openedBy, oneMore, countedAs}
-use Rattle.machines.specs.declared.tek.Pair.{Pair}
-use Rattle.machines.specs.declared.tek.Tek.{Tek}
+use Rattle.tek_machine.specs.declared.tek.Pair.{Pair}
+use Rattle.tek_machine.specs.declared.tek.Tek.{Tek}
 use Rattle.modem_steps.specs.declared.state.Modem.{Modem}
 use Rattle.modem_steps.specs.State.{slotAt, starting}
 use Rattle.modem_steps.specs.Slots.{slotOfSaid, told}

@@ -14,23 +14,23 @@ use keys::frame::decide;
 use keys::frame::is_serving;
 use keys::numbers::TekNumber;
 use keys::numbers::tek_in_range;
-use keys::refusal::Answer;
-use keys::refusal::Refusal;
-use keys::refusal::answer_number;
-use keys::refusal::ask;
-use keys::refusal::is_done;
 use keys::sealing::SealedCall;
 use keys::sealing::one_more;
 use keys::sealing::put_key;
 use keys::suites::width;
-use machines::tek::Pair;
-use machines::tek::Tek;
 use modem::messages::put_out;
 use modem_limits::limits::modem_fits;
 use modem_steps::slots::slot_of_said;
 use modem_steps::state::Modem;
 use modem_steps::state::no_tek;
 use modem_steps::state::start;
+use questions::refusal::Answer;
+use questions::refusal::Refusal;
+use questions::refusal::answer_number;
+use questions::refusal::ask;
+use questions::refusal::is_done;
+use tek_machine::tek::Pair;
+use tek_machine::tek::Tek;
 
 // What `open` hands back: the answer, the modem after it, how many octets of TEK and of vector were written, and how many of messages.
 pub struct OpenedCall {

@@ -3,11 +3,11 @@ use Prim.Native.Nat.{ℕ, zero, suc}
 use mathlib.Core.Path.{_≡_, refl, sym, ap, _∙_}
 use mathlib.Core.List.{List, [], _∷_}
 use lib.ListN.{length, getD, take}
-use Rattle.keys.specs.Apart.{pairsApart}
-use Rattle.keys.proofs.ListLaws.{of-four}
+use Rattle.questions.specs.Apart.{pairsApart}
+use Rattle.questions.proofs.ListLaws.{of-four}
 use Rattle.wire.specs.Messages.{different}
 use Rattle.wire.proofs.ApartLaws.{pairs-different}
-use Rattle.machines.specs.declared.tek.Tek.{Tek}
+use Rattle.tek_machine.specs.declared.tek.Tek.{Tek}
 use Rattle.modem_steps.specs.State.{pastTek}
 use Rattle.modem_limits.specs.Limits.{saidsOfTeks}
 

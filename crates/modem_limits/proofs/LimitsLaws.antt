@@ -7,14 +7,14 @@ use native.Mathlib.Omega.{arith}
 use lib.Dec.{ltb, leb, eqb}
 use lib.ListN.{length, getD, take, List·getD-eq-default}
 use borrow.Author.Tests.{leb-true, leb-false, le-leb, lt-ltb, eqb-true, eqb-false, ne-eqb, not-true}
-use Rattle.keys.specs.declared.settings.Waits.{Waits}
-use Rattle.keys.specs.Settings.{settingsFit}
+use Rattle.questions.specs.declared.settings.Waits.{Waits}
+use Rattle.questions.specs.Settings.{settingsFit}
 use Rattle.keys.specs.Suites.{suiteKnown, widthOf}
-use Rattle.keys.proofs.TestLaws.{both}
+use Rattle.questions.proofs.TestLaws.{both}
 use Rattle.wire.specs.Messages.{isNone, different}
 use Rattle.wire.proofs.HoldsLaws.{never}
 use Rattle.authorization_machine.specs.declared.authorization.Authorization.{Authorization}
-use Rattle.machines.specs.declared.tek.Tek.{Tek}
+use Rattle.tek_machine.specs.declared.tek.Tek.{Tek}
 use Rattle.machines.specs.Transitions.{A, B, D, E, F}
 use Rattle.modem_steps.specs.declared.state.Modem.{Modem}
 use Rattle.modem_steps.specs.State.{pastTek}

@@ -6,16 +6,16 @@ use lib.Dec.{eqb, leb, ltb}
 use lib.ListN.{take}
 use Rattle.keys.specs.Numbers.{akInRange}
 use Rattle.keys.specs.Addresses.{saidFits, addressFits}
-use Rattle.keys.specs.Settings.{settingsFit}
+use Rattle.questions.specs.Settings.{settingsFit}
 use Rattle.keys.specs.Suites.{suiteKnown, widthOf}
 use Rattle.keys.specs.Octets.{allZero}
 use Rattle.keys.specs.Traffic.{pairFits}
-use Rattle.keys.specs.declared.settings.Waits.{Waits}
+use Rattle.questions.specs.declared.settings.Waits.{Waits}
 use Rattle.keys.specs.declared.traffic.TrafficKey.{TrafficKey}
 use Rattle.wire.specs.Messages.{different}
 use Rattle.authorization_machine.specs.declared.authorization.Authorization.{Authorization}
-use Rattle.machines.specs.declared.tek.Pair.{Pair}
-use Rattle.machines.specs.declared.tek.Tek.{Tek}
+use Rattle.tek_machine.specs.declared.tek.Pair.{Pair}
+use Rattle.tek_machine.specs.declared.tek.Tek.{Tek}
 use Rattle.machines.specs.declared.timer.Timer.{Timer}
 use Rattle.machines.specs.Transitions.{A, B, D, E, F}
 use Rattle.modem_steps.specs.declared.state.Modem.{Modem}

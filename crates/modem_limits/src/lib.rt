@@ -1,2 +1,2 @@
-// Question 1 of the modem's state. The contract equates the answer with specs/Limits.antt.
+// Question 1 of the modem's state: the contract of `limits::modem_fits` equates the answer with `modemFits` of specs/Limits.antt.
 pub mod limits;

@@ -5,19 +5,19 @@ ghost use lib.ListN.{take};
 ghost use Rattle.wire.specs.Messages.{different};
 ghost use Rattle.modem_limits.specs.Limits.{timerFits, authorizationFits, keyZero, pairHeldFits, longestWait, tekFits, tekZero, slotFits, saidsOfTeks, modemFits};
 use authorization_machine::authorization::Authorization;
-use keys::apart::all_apart;
 use keys::octets::zero_past;
-use keys::settings::Waits;
-use keys::settings::settings_fit;
 use keys::suites::suite_known;
 use keys::suites::width;
 use keys::traffic::TrafficKey;
 use keys::traffic::is_within;
 use keys::traffic::pair_fits;
-use machines::tek::Pair;
-use machines::tek::Tek;
 use machines::timer::Timer;
 use modem_steps::state::Modem;
+use questions::apart::all_apart;
+use questions::settings::Waits;
+use questions::settings::settings_fit;
+use tek_machine::tek::Pair;
+use tek_machine::tek::Tek;
 
 fn timer_fits(must: bool, clock: u64, ahead: u64, t: Timer) -> bool
     ensures { λ r. ⌜ r ≡ timerFits must clock ahead t ⌝ }

@@ -1,3 +1,3 @@
-// Messages at the modem on values: what is asked of a message's fields, and what a message that is taken does to the modem. Each contract equates
-// the result with a definition of specs/.
+// A message at the modem, on values: questions 9 to 12 of its fields, and what one that is taken does. Each contract equates the result with a definition
+// of specs/Receive.antt.
 pub mod receive;

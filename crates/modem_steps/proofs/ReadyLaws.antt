@@ -5,9 +5,9 @@ use native.Mathlib.Omega.{arith}
 use Rattle.keys.specs.declared.numbers.AkNumber.{AkNumber}
 use Rattle.wire.specs.declared.fields.Params.{Params}
 use Rattle.wire.specs.Fields.{noParams}
-use Rattle.machines.specs.declared.tek.TekMoment.{TekMoment}
+use Rattle.tek_machine.specs.declared.tek.TekMoment.{TekMoment}
 use Rattle.authorization_machine.specs.declared.authorization.AuthMoment.{AuthMoment}
-use Rattle.machines.specs.Tek.{TekReady}
+use Rattle.tek_machine.specs.Tek.{TekReady}
 use Rattle.authorization_machine.specs.Authorization.{AuthReady}
 use Rattle.modem_steps.specs.declared.state.Modem.{Modem}
 use Rattle.modem_steps.specs.declared.state.Work.{Work}

@@ -6,11 +6,11 @@ use lib.ListN.{getD, set, replicate}
 use Rattle.wire.specs.declared.fields.Descriptor.{Descriptor}
 use Rattle.wire.specs.declared.fields.Fields.{Fields}
 use Rattle.wire.specs.Fields.{noParams, noDescriptor}
-use Rattle.machines.specs.declared.tek.Tek.{Tek}
-use Rattle.machines.specs.declared.tek.TekStep.{TekStep}
+use Rattle.tek_machine.specs.declared.tek.Tek.{Tek}
+use Rattle.tek_machine.specs.declared.tek.TekStep.{TekStep}
 use Rattle.machines.specs.Timers.{off}
 use Rattle.machines.specs.Transitions.{A}
-use Rattle.machines.specs.Tek.{noPair, tekStepOf}
+use Rattle.tek_machine.specs.Tek.{noPair, tekStepOf}
 use Rattle.modem_steps.specs.declared.state.Modem.{Modem}
 use Rattle.modem_steps.specs.declared.state.Work.{Work}
 use Rattle.modem_steps.specs.State.{withMachines, noTek, slotAt, pushed}

@@ -4,14 +4,14 @@ use mathlib.Core.Bool.{cond}
 use mathlib.Core.List.{List, []}
 use lib.Dec.{eqb, leb}
 use lib.ListN.{getD, set, replicate}
-use Rattle.keys.specs.declared.settings.Settings.{Settings}
-use Rattle.keys.specs.declared.settings.Waits.{Waits}
+use Rattle.questions.specs.declared.settings.Settings.{Settings}
+use Rattle.questions.specs.declared.settings.Waits.{Waits}
 use Rattle.keys.specs.declared.traffic.TrafficKey.{TrafficKey}
 use Rattle.authorization_machine.specs.declared.authorization.Authorization.{Authorization}
-use Rattle.machines.specs.declared.tek.Request.{Request}
-use Rattle.machines.specs.declared.tek.Tek.{Tek}
+use Rattle.tek_machine.specs.declared.tek.Request.{Request}
+use Rattle.tek_machine.specs.declared.tek.Tek.{Tek}
 use Rattle.machines.specs.Timers.{off}
-use Rattle.machines.specs.Tek.{noPair, nothing}
+use Rattle.tek_machine.specs.Tek.{noPair, nothing}
 use Rattle.modem_steps.specs.declared.state.Modem.{Modem}
 use Rattle.modem_steps.specs.declared.state.Out.{Out}
 use Rattle.modem_steps.specs.declared.state.Work.{Work}
@@ -67,7 +67,7 @@ slotAt m i = getD (m .teks) i pastTek
 abbrev pub noOut : Out
 noOut = record { count = 0; sent = replicate 6 nothing }
 
--- One message more, where there is one; `SentFits` and `NoneDropped` of crate `modem` show that there is always room
+-- One message more, where there is one; `CallMessages` of crate `modem` shows that none is dropped
 unfoldable pub pushed : Out → Request → Out
 pushed o r = cond (eqb (r .code) 0) o (cond (leb 6 (o .count)) o (record { count = o .count + 1; sent = set (o .sent) (o .count) r }))
 

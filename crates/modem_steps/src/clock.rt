@@ -1,11 +1,9 @@
-// The clock: due timers fire once each, authorization first, then the TEK machines in slot order.
+// A due timer fires: that of the authorization machine, or of the TEK machine in a slot.
 ghost use mathlib.Core.Path.{_≡_};
 ghost use Prim.Native.Nat.{_<_};
-ghost use Rattle.modem_steps.specs.State.{Ready, withClock};
-ghost use Rattle.modem_steps.specs.Clock.{authTimerEvent, tekTimerEvent, authFired, slotFired, clocked};
-use crate::state::Modem;
+ghost use Rattle.modem_steps.specs.State.{Ready};
+ghost use Rattle.modem_steps.specs.Clock.{authTimerEvent, tekTimerEvent, authFired, slotFired};
 use crate::state::Work;
-use crate::state::start;
 use machines::timer::is_due;
 
 fn auth_timer_event(state: u8) -> u8
@@ -27,7 +25,7 @@ fn tek_timer_event(state: u8) -> u8
 }
 
 impl Work {
-    fn auth_fired(self) -> Work
+    pub fn auth_fired(self) -> Work
         requires { ⌜ Ready (self .modem) ⌝ }
         ensures { λ r. ⌜ (r ≡ authFired self) × Ready (r .modem) ⌝ }
     {
@@ -40,7 +38,7 @@ impl Work {
         self
     }
 
-    fn slot_fired(self, i: usize) -> Work
+    pub fn slot_fired(self, i: usize) -> Work
         requires { ⌜ (i < 4) × Ready (self .modem) ⌝ }
         ensures { λ r. ⌜ (r ≡ slotFired self i) × Ready (r .modem) ⌝ }
     {
@@ -52,19 +50,4 @@ impl Work {
         }
         self
     }
-}
-
-// The clock goes to `t`.
-pub fn clocked(m: Modem, t: u64) -> Work
-    requires { ⌜ Ready (withClock m t) ⌝ }
-    ensures { λ r. ⌜ r ≡ clocked m t ⌝ }
-{
-    let mut at = m;
-    at.clock = t;
-    start(at)
-        .auth_fired()
-        .slot_fired(0)
-        .slot_fired(1)
-        .slot_fired(2)
-        .slot_fired(3)
 }

@@ -1,5 +1,5 @@
-// The modem's state by value, and what an event does to it: both machines' steps, the TEK machines after a Reply, the clock, and what a
-// message that is taken does. Each contract equates the result with a definition of specs/. Crate `modem` has the calls.
+// The modem's state by value, and what an event of either machine, a Reply's list of SAIDs and the clock do to it. Each contract equates the result with
+// a definition of specs/. What a message does stands in `modem_events` and `modem_receive`, the calls in `modem` and `modem_frames`.
 pub mod clock;
 pub mod machine;
 pub mod relist;

@@ -5,9 +5,9 @@ ghost use Rattle.modem_steps.specs.State.{Ready};
 ghost use Rattle.modem_steps.specs.Slots.{tekMoment, steppedAt, toldReply, told, toldAll, isWaiting, slotOfSaid, asking, slotAsking};
 use crate::state::Modem;
 use crate::state::Work;
-use machines::tek::Tek;
-use machines::tek::TekMoment;
-use machines::tek::TekStep;
+use tek_machine::tek::Tek;
+use tek_machine::tek::TekMoment;
+use tek_machine::tek::TekStep;
 use wire::fields::Params;
 use wire::fields::no_params;
 

@@ -3,13 +3,13 @@ ghost use mathlib.Core.Path.{_≡_};
 ghost use Rattle.modem_steps.specs.State.{noTek, noOut, pushed, starting, freshOf};
 use authorization_machine::authorization::Authorization;
 use keys::numbers::AkNumber;
-use keys::refusal::Answer;
-use keys::settings::Settings;
-use machines::tek::Request;
-use machines::tek::Tek;
-use machines::tek::no_pair;
-use machines::tek::no_request;
 use machines::timer::cleared;
+use questions::refusal::Answer;
+use questions::settings::Settings;
+use tek_machine::tek::Request;
+use tek_machine::tek::Tek;
+use tek_machine::tek::no_pair;
+use tek_machine::tek::no_request;
 
 // `said` is the modem's own, which its Authorization Requests carry; `counter` is the last Identifier taken; of the four slots the first
 // `used` hold machines; `taken` and `refused` count frames.

@@ -9,7 +9,7 @@ use Rattle.keys.specs.declared.numbers.TekNumber.{TekNumber}
 use Rattle.keys.specs.declared.traffic.TrafficKey.{TrafficKey}
 use Rattle.keys.specs.Suites.{widthOf}
 use Rattle.keys.specs.Sealing.{keyOut}
-use Rattle.keys.proofs.ListLaws.{Each}
+use Rattle.questions.proofs.ListLaws.{Each}
 use Rattle.association.specs.Made.{Made}
 use Rattle.association.proofs.MadeLaws.{Follows}
 use Rattle.plant.specs.World.{Frame}

@@ -5,12 +5,12 @@ use mathlib.Core.List.{List, [], _∷_, map}
 use Prim.Native.Nat.{ℕ, zero, suc, _+_, _*_}
 use lib.Dec.{leb, ltb, eqb}
 use lib.ListN.{length, take, set}
-use Rattle.keys.specs.declared.refusal.Answer.{Answer}
-use Rattle.keys.specs.declared.refusal.Answer.the-variants.{Done, Refused}
-use Rattle.keys.specs.declared.refusal.Refusal.the-variants.{OutOfLimits, WrongLength, NoFreePlace, NotNew, ClockOutOfOrder}
-use Rattle.keys.specs.declared.settings.Settings.{Settings}
-use Rattle.keys.specs.Questions.{firstNo}
-use Rattle.keys.specs.Settings.{halfOf}
+use Rattle.questions.specs.declared.refusal.Answer.{Answer}
+use Rattle.questions.specs.declared.refusal.Answer.the-variants.{Done, Refused}
+use Rattle.questions.specs.declared.refusal.Refusal.the-variants.{OutOfLimits, WrongLength, NoFreePlace, NotNew, ClockOutOfOrder}
+use Rattle.questions.specs.declared.settings.Settings.{Settings}
+use Rattle.questions.specs.Questions.{firstNo}
+use Rattle.questions.specs.Settings.{halfOf}
 use Rattle.association.specs.declared.record.Assoc.{Assoc}
 use Rattle.association.specs.declared.listing.Listing.{Listing}
 use Rattle.association.specs.declared.search.Probe.the-variants.{OutOfLimits as OutOfLimitsIn}
@@ -25,7 +25,7 @@ use Rattle.headend_limits.specs.Search.{halfIn, outOfLimits, oneOf}
 use Rattle.headend_steps.specs.Listing.{listQuestions, listAnswer, listFor, listCalled}
 use Rattle.headend_steps.specs.Clock.{clockQuestions, clockAnswer, clockFor, clockCalled}
 use Rattle.headend_answers.specs.Answers.{withKeys}
-use Rattle.headend.specs.Calls.{recordsFor, listOf, listRecords, clockOf, clockRecords}
+use Rattle.headend_rules.specs.Calls.{recordsFor, listOf, listRecords, clockOf, clockRecords}
 
 -- an entry but for its authorization keys
 abbrev pub bare : Entry → Entry

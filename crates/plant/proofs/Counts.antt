@@ -7,24 +7,24 @@ use native.Mathlib.Omega.{arith}
 use lib.Dec.{eqb}
 use lib.ListN.{length}
 use borrow.Author.Tests.{lt-leb, eqb-true, eqb-false}
-use Rattle.keys.specs.declared.refusal.Answer.{Answer}
-use Rattle.keys.specs.declared.refusal.Answer.the-variants.{Done, Refused}
+use Rattle.questions.specs.declared.refusal.Answer.{Answer}
+use Rattle.questions.specs.declared.refusal.Answer.the-variants.{Done, Refused}
 use Rattle.keys.specs.declared.numbers.TekNumber.{TekNumber}
-use Rattle.keys.specs.Refusal.{answerNumber}
+use Rattle.questions.specs.Refusal.{answerNumber}
 use Rattle.keys.specs.Sealing.{oneMore}
 use Rattle.association.specs.declared.record.Assoc.{Assoc}
 use Rattle.association.specs.declared.listing.Listing.{Listing}
 use Rattle.association.specs.declared.search.Probe.the-variants.{OfSaid}
 use Rattle.records.specs.Records.{firstOf, lookupOf}
-use Rattle.keys.proofs.AnswerLaws.{number-done}
+use Rattle.questions.proofs.AnswerLaws.{number-done}
 use Rattle.wire.proofs.HoldsLaws.{never}
 use Rattle.headend_state.specs.declared.state.HeadEnd.{HeadEnd}
 use Rattle.headend_limits.specs.Search.{outOfLimits, oneOf}
 use Rattle.headend_steps.specs.Listing.{listAnswer, listFor, listCalled}
 use Rattle.headend_steps.specs.Clock.{clockAnswer, clockFor, clockCalled}
 use Rattle.headend_frames.specs.Frames as HF
-use Rattle.headend.specs.Calls as Head
-use Rattle.headend.specs.FrameCalls as HeadFrames
+use Rattle.headend_rules.specs.Calls as Head
+use Rattle.headend_rules.specs.FrameCalls as HeadFrames
 use Rattle.modem_frames.specs.Frames as ModemFrames
 use Rattle.modem_steps.specs.declared.state.Modem.{Modem}
 use Rattle.modem.proofs.PairLaws.{established-keeps, reauth-keeps, receive-keeps, clock-keeps}

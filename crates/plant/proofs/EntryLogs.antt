@@ -10,9 +10,9 @@ use lib.Dec.{eqb}
 use lib.ListN.{length, take, getD, set, length-take}
 use lib.Seq.{take-suc-set, take-set-lt}
 use borrow.Author.Tests.{eqb-true, eqb-false}
-use Rattle.keys.specs.declared.refusal.Answer.{Answer}
-use Rattle.keys.specs.declared.refusal.Answer.the-variants.{Done, Refused}
-use Rattle.keys.proofs.ListLaws.{Each}
+use Rattle.questions.specs.declared.refusal.Answer.{Answer}
+use Rattle.questions.specs.declared.refusal.Answer.the-variants.{Done, Refused}
+use Rattle.questions.proofs.ListLaws.{Each}
 use Rattle.association.specs.declared.listing.Listing.{Listing}
 use Rattle.association.specs.declared.record.Assoc.{Assoc}
 use Rattle.association.specs.declared.search.Found.{Found}
@@ -30,8 +30,8 @@ use Rattle.headend_steps.specs.Listing.{grown}
 use Rattle.headend_answers.specs.Answers.{withKeys, keysAfter, keyAnswer, stateAfter, requestState, requestReaction, reactionOf}
 use Rattle.headend_steps.specs.Receive.{receiveAnswer, reactionTo, calledFor, receiveCalled}
 use Rattle.headend_limits.proofs.LimitsLaws.{known-place}
-use Rattle.headend.specs.Calls.{receiveOf}
-use Rattle.headend.specs.Minting.{pairAt, pairsTo, namedPairs}
+use Rattle.headend_rules.specs.Calls.{receiveOf}
+use Rattle.headend_rules.specs.Minting.{pairAt, pairsTo, namedPairs}
 use Rattle.plant.proofs.LogLaws.{Log, logTo, logListed, logsTo, logsListed, to-said, to-suite}
 
 pub record LogOf (gs : List Log) (said suite : ℕ) : Type 0 where

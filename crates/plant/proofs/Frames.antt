@@ -10,18 +10,18 @@ use lib.ListN.{getD}
 use borrow.Author.Tests.{leb-true, ltb-true}
 use Rattle.keys.specs.declared.numbers.TekNumber.{TekNumber}
 use Rattle.keys.specs.declared.traffic.TrafficKey.{TrafficKey}
-use Rattle.keys.specs.Refusal.{answerNumber}
+use Rattle.questions.specs.Refusal.{answerNumber}
 use Rattle.keys.specs.Numbers.{tekInRange}
 use Rattle.keys.specs.Suites.{widthOf}
 use Rattle.keys.specs.Sealing.{keyOut}
-use Rattle.keys.proofs.TestLaws.{both}
+use Rattle.questions.proofs.TestLaws.{both}
 use Rattle.association.specs.declared.record.Assoc.{Assoc}
 use Rattle.association.specs.Made.{Made, keyOf, recordOf}
 use Rattle.records.specs.Records.{none}
 use Rattle.keys.specs.Addresses.{addressFits}
 use Rattle.headend_frames.specs.Frames.{HeadOpened}
-use Rattle.headend.specs.FrameCalls as HeadFrames
-use Rattle.headend.proofs.FrameLaws as HeadLaws
+use Rattle.headend_rules.specs.FrameCalls as HeadFrames
+use Rattle.headend_rules.proofs.FrameLaws as HeadLaws
 use Rattle.modem_frames.specs.Frames as ModemFrames
 use Rattle.modem_frames.specs.Frames.{ModemOpened, machineOf}
 use Rattle.modem_frames.proofs.FrameLaws as ModemLaws

@@ -6,19 +6,19 @@ use Prim.Native.Nat.{ℕ, _≤_}
 use native.Mathlib.Omega.{arith}
 use lib.ListN.{take}
 use lib.Seq.{take-take}
-use Rattle.keys.specs.declared.refusal.Answer.{Answer}
-use Rattle.keys.specs.declared.refusal.Answer.the-variants.{Done}
-use Rattle.keys.specs.Refusal.{isDone}
-use Rattle.keys.proofs.TestLaws.{both}
-use Rattle.keys.proofs.AnswerLaws.{is-done}
+use Rattle.questions.specs.declared.refusal.Answer.{Answer}
+use Rattle.questions.specs.declared.refusal.Answer.the-variants.{Done}
+use Rattle.questions.specs.Refusal.{isDone}
+use Rattle.questions.proofs.TestLaws.{both}
+use Rattle.questions.proofs.AnswerLaws.{is-done}
 use Rattle.association.specs.declared.listing.Listing.{Listing}
 use Rattle.records.specs.Records.{storedAt}
 use Rattle.headend_state.specs.declared.state.HeadEnd.{HeadEnd}
 use Rattle.headend_limits.specs.Search.{halfIn}
-use Rattle.headend.specs.Calls as Head
-use Rattle.headend.proofs.StateLaws.{by-answer, list-state, list-stays, clock-state, receive-base}
-use Rattle.headend.proofs.SecondLaws.{clock-forward, clock-still, list-front}
-use Rattle.headend.proofs.FrameAnswers.{open-same}
+use Rattle.headend_rules.specs.Calls as Head
+use Rattle.headend_rules.proofs.StateLaws.{by-answer, list-state, list-stays, clock-state, receive-base}
+use Rattle.headend_rules.proofs.SecondLaws.{clock-forward, clock-still, list-front}
+use Rattle.headend_rules.proofs.FrameAnswers.{open-same}
 use Rattle.modem.specs.Calls as Mdm
 use Rattle.plant.specs.World.{World, Step, list, clock, established, reauth, up, down, sealDown, sealUp, openUp, openDown, clockedBy, clockAnswers}
 use Rattle.plant.specs.Run.{after, worldAfter}

@@ -8,13 +8,13 @@ use native.Mathlib.Omega.{arith}
 use lib.Dec.{eqb}
 use lib.ListN.{getD}
 use Rattle.keys.specs.declared.numbers.TekNumber.{TekNumber}
-use Rattle.keys.specs.declared.refusal.Answer.{Answer}
-use Rattle.keys.specs.declared.refusal.Answer.the-variants.{Done, Refused}
-use Rattle.keys.specs.Refusal.{isDone}
+use Rattle.questions.specs.declared.refusal.Answer.{Answer}
+use Rattle.questions.specs.declared.refusal.Answer.the-variants.{Done, Refused}
+use Rattle.questions.specs.Refusal.{isDone}
 use Rattle.keys.specs.Suites.{widthOf}
 use Rattle.keys.specs.Sealing.{Sealed, keyOut}
-use Rattle.keys.proofs.TestLaws.{both}
-use Rattle.keys.proofs.AnswerLaws.{is-done}
+use Rattle.questions.proofs.TestLaws.{both}
+use Rattle.questions.proofs.AnswerLaws.{is-done}
 use Rattle.association.specs.declared.record.Assoc.{Assoc}
 use Rattle.association.specs.declared.listing.Listing.{Listing}
 use Rattle.association.specs.Made.{Made, keyOf, recordOf}
@@ -26,16 +26,16 @@ use Rattle.wire.specs.Reading.{takenOf}
 use Rattle.wire.proofs.MessageAnswers.{read-answer}
 use Rattle.headend_state.specs.declared.state.HeadEnd.{HeadEnd}
 use Rattle.headend_answers.specs.Answers.{paramsAt, keyReply}
-use Rattle.headend.specs.Calls as Head
-use Rattle.headend.specs.FrameCalls as HeadFrames
-use Rattle.headend.specs.Minting.{namedPairs, acceptedList}
-use Rattle.headend.proofs.AnswersSent.{request}
-use Rattle.headend.proofs.AnswerCases.{placeOf}
-use Rattle.headend.proofs.Refused.{list-refused-same}
-use Rattle.headend.proofs.StateLaws.{by-answer, list-state, clock-state, receive-base}
-use Rattle.headend.proofs.SecondLaws.{clock-forward}
-use Rattle.headend.proofs.FrameLaws as HeadLaws
-use Rattle.headend.proofs.FrameAnswers.{up-reply, reply-read, invalid-not-reply, open-same}
+use Rattle.headend_rules.specs.Calls as Head
+use Rattle.headend_rules.specs.FrameCalls as HeadFrames
+use Rattle.headend_rules.specs.Minting.{namedPairs, acceptedList}
+use Rattle.headend_rules.proofs.AnswersSent.{request}
+use Rattle.headend_rules.proofs.AnswerCases.{placeOf}
+use Rattle.headend_rules.proofs.Refused.{list-refused-same}
+use Rattle.headend_rules.proofs.StateLaws.{by-answer, list-state, clock-state, receive-base}
+use Rattle.headend_rules.proofs.SecondLaws.{clock-forward}
+use Rattle.headend_rules.proofs.FrameLaws as HeadLaws
+use Rattle.headend_rules.proofs.FrameAnswers.{up-reply, reply-read, invalid-not-reply, open-same}
 use Rattle.modem.specs.Calls as Mdm
 use Rattle.modem.proofs.AnswerLaws.{read-fields}
 use Rattle.modem.proofs.PairLaws.{clock-pairs, clock-done}

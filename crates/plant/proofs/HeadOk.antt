@@ -9,8 +9,8 @@ use native.Mathlib.Omega.{arith}
 use lib.ListN.{length, getD}
 use lib.Seq.{getD-take}
 use borrow.Author.Tests.{lt-ltb, eq-eqb, eqb-true}
-use Rattle.keys.proofs.TestLaws.{both}
-use Rattle.keys.proofs.ListLaws.{Each}
+use Rattle.questions.proofs.TestLaws.{both}
+use Rattle.questions.proofs.ListLaws.{Each}
 use Rattle.association.specs.declared.record.Assoc.{Assoc}
 use Rattle.association.specs.declared.listing.Listing.{Listing}
 use Rattle.association.specs.declared.search.Probe.the-variants.{OfSaid}
@@ -27,9 +27,9 @@ use Rattle.headend_state.specs.Entries.{entriesOf, knownOf, lists, listsAt, lis
 use Rattle.headend_limits.proofs.ListingLaws.{listed-at}
 use Rattle.headend_limits.proofs.LimitsLaws.{known-place, known-in, entry-facts}
 use Rattle.headend_steps.proofs.AnswersRead.{ShapedRecord}
-use Rattle.headend.specs.Within.{Within, Recorded}
-use Rattle.headend.proofs.WithinLaws.{within-record}
-use Rattle.headend.proofs.MintLaws.{Shows}
+use Rattle.headend_rules.specs.Within.{Within, Recorded}
+use Rattle.headend_rules.proofs.WithinLaws.{within-record}
+use Rattle.headend_rules.proofs.MintLaws.{Shows}
 use Rattle.plant.proofs.LogLaws.{Log, linesIn}
 use Rattle.plant.proofs.SaidLaws.{saidsIn, Different, apart-by}
 use Rattle.plant.proofs.EntryLogs.{LogOf, Logged, EntriesLogged, at-in}

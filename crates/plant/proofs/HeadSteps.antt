@@ -5,13 +5,13 @@ use mathlib.Core.List.{List, [], _++_, map-append, List·Memᴰ}
 use Prim.Native.Nat.{ℕ}
 use native.Mathlib.Omega.{arith}
 use lib.ListN.{length, getD, take, length-set}
-use Rattle.keys.specs.declared.refusal.Answer.the-variants.{Done, Refused}
-use Rattle.keys.specs.declared.refusal.Refusal.{Refusal}
-use Rattle.keys.specs.declared.settings.Settings.{Settings}
-use Rattle.keys.specs.Refusal.{answerNumber}
-use Rattle.keys.specs.Settings.{halfOf, settingsFit}
+use Rattle.questions.specs.declared.refusal.Answer.the-variants.{Done, Refused}
+use Rattle.questions.specs.declared.refusal.Refusal.{Refusal}
+use Rattle.questions.specs.declared.settings.Settings.{Settings}
+use Rattle.questions.specs.Refusal.{answerNumber}
+use Rattle.questions.specs.Settings.{halfOf, settingsFit}
 use Rattle.keys.specs.declared.numbers.TekNumber.{TekNumber}
-use Rattle.keys.proofs.ListLaws.{Each, each-nil, each-cons}
+use Rattle.questions.proofs.ListLaws.{Each, each-nil, each-cons}
 use Rattle.association.specs.declared.record.Assoc.{Assoc}
 use Rattle.association.specs.declared.listing.Listing.{Listing}
 use Rattle.association.specs.Made.{Line, listedLines}
@@ -25,16 +25,16 @@ use Rattle.headend_state.specs.Entries.{entriesOf, knownOf}
 use Rattle.headend_steps.specs.Listing.{grown}
 use Rattle.headend_limits.specs.Search.{oneOf}
 use Rattle.headend_limits.proofs.ListingLaws.{listing-facts, unnamed}
-use Rattle.headend.specs.Calls.{newOf, listOf, listRecords, clockOf, clockRecords, receiveOf}
-use Rattle.headend.specs.Minting.{namedPairs}
-use Rattle.headend.specs.Within.{Within}
-use Rattle.headend.specs.FrameCalls.{openOf}
-use Rattle.headend.proofs.CallsLaws.{AskedList, list-met}
-use Rattle.headend.proofs.KeptLimits.{new-within, list-within, clock-within, receive-within}
-use Rattle.headend.proofs.StateLaws.{list-state, clock-state}
-use Rattle.headend.proofs.MintLaws.{Shows, shows-same, list-shows, clock-shows, receive-shows, fresh-shows}
-use Rattle.headend.proofs.Refused.{list-refused-same}
-use Rattle.headend.proofs.FrameAnswers.{same-within, open-same}
+use Rattle.headend_rules.specs.Calls.{newOf, listOf, listRecords, clockOf, clockRecords, receiveOf}
+use Rattle.headend_rules.specs.Minting.{namedPairs}
+use Rattle.headend_rules.specs.Within.{Within}
+use Rattle.headend_rules.specs.FrameCalls.{openOf}
+use Rattle.headend_rules.proofs.CallsLaws.{AskedList, list-met}
+use Rattle.headend_rules.proofs.KeptLimits.{new-within, list-within, clock-within, receive-within}
+use Rattle.headend_rules.proofs.StateLaws.{list-state, clock-state}
+use Rattle.headend_rules.proofs.MintLaws.{Shows, shows-same, list-shows, clock-shows, receive-shows, fresh-shows}
+use Rattle.headend_rules.proofs.Refused.{list-refused-same}
+use Rattle.headend_rules.proofs.FrameAnswers.{same-within, open-same}
 use Rattle.plant.proofs.LogLaws.{Log, linesIn, logsTo, logsListed, lines-listed, lines-to, listed-good, to-good}
 use Rattle.plant.proofs.SaidLaws.{saidsIn, Different, each-append, different-append, saids-clocked, saids-listed}
 use Rattle.plant.proofs.EntryLogs.{Logged, EntriesLogged, log-listed, log-right, log-clocked, new-logged, grown-entries, rekeyed-logged, receive-state}

@@ -4,7 +4,7 @@ use mathlib.Core.Bool.{true}
 use mathlib.Core.List.{List, [], _∷_, _++_, List·Memᴰ}
 use Prim.Native.Nat.{ℕ, _≤_}
 use native.Mathlib.Omega.{arith}
-use Rattle.keys.proofs.ListLaws.{Each, each-snoc}
+use Rattle.questions.proofs.ListLaws.{Each, each-snoc}
 use Rattle.modem_steps.specs.declared.state.Modem.{Modem}
 use Rattle.modem_steps.specs.State.{slotAt}
 use Rattle.modem_limits.specs.Limits.{modemFits}

@@ -3,7 +3,7 @@ use mathlib.Core.Path.{_≡_, refl, sym, _∙_, ap, subst}
 use mathlib.Core.List.{List, [], _∷_, _++_, map, List·Memᴰ, List·Memᴰ·head, List·Memᴰ·tail, Memᴰ·append-left}
 use Prim.Native.Nat.{ℕ, _+_}
 use Rattle.keys.specs.Suites.{widthOf}
-use Rattle.keys.proofs.ListLaws.{Each, each-nil, each-cons}
+use Rattle.questions.proofs.ListLaws.{Each, each-nil, each-cons}
 use Rattle.association.specs.Made.{Made, SaidSuite, Line, listedLine, listedLines, mints, pushedAll, lineTo, linesTo}
 use Rattle.association.proofs.MadeLaws.{Follows, listed-follows, mints-follow}
 

@@ -9,13 +9,13 @@ use lib.Dec.{ltb}
 use lib.ListN.{length}
 use Rattle.keys.specs.Suites.{widthOf}
 use Rattle.keys.specs.Octets.{octetsOf}
-use Rattle.keys.proofs.ListLaws.{Each, each-nil, each-cons}
+use Rattle.questions.proofs.ListLaws.{Each, each-nil, each-cons}
 use Rattle.keys.proofs.OctetsLaws.{octets-length}
 use Rattle.association.specs.declared.listing.Listing.{Listing}
 use Rattle.association.specs.Made.{SaidSuite, Line, mints, mintsBy}
 use Rattle.headend_state.specs.Entries.{saidAt}
 use Rattle.headend_limits.proofs.ListingLaws.{ListingIn}
-use Rattle.headend.specs.Minting.{pairAt, pairsTo}
+use Rattle.headend_rules.specs.Minting.{pairAt, pairsTo}
 use Rattle.plant.proofs.LogLaws.{Log, logsTo, logsListed}
 use Rattle.plant.proofs.SaidLaws.{saidsIn, Different, append-cases, each-append, different-append}
 use Rattle.plant.proofs.HeadOk.{ShapedMade}

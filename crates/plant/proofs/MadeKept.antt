@@ -4,7 +4,7 @@ use mathlib.Core.Bool.{Bool, true, false}
 use mathlib.Core.List.{List, [], _∷_, _++_, map, append-assoc, append-nil, List·Memᴰ, List·Memᴰ·head, List·Memᴰ·tail, Memᴰ·append-left}
 use Prim.Native.Nat.{ℕ, _+_}
 use lib.Dec.{ltb}
-use Rattle.keys.proofs.ListLaws.{Each, each-nil, each-cons}
+use Rattle.questions.proofs.ListLaws.{Each, each-nil, each-cons}
 use Rattle.association.specs.Made.{Made, SaidSuite, Line, listedLine, listedLines, bothOf, mints, mintsBy, mintsAll, pushedAll, Accepted, madeBy, keysMadeFrom}
 use Rattle.association.specs.Made.{listing as madeByListing, clock as madeByClock}
 use Rattle.plant.specs.KeysMade.{ofSaid, saidsOf, saidsListed}

@@ -5,7 +5,7 @@ use mathlib.Core.List.{List, [], _∷_, _++_, map-append, append-assoc, append-n
 use Prim.Native.Nat.{ℕ}
 use lib.Dec.{eqb}
 use borrow.Author.Tests.{eq-eqb, ne-eqb}
-use Rattle.keys.proofs.ListLaws.{Each}
+use Rattle.questions.proofs.ListLaws.{Each}
 use Rattle.association.specs.Made.{Made, Line, Accepted, linesAfter}
 use Rattle.association.specs.Made.{listing as madeByListing, clock as madeByClock}
 use Rattle.plant.specs.KeysMade.{keepIf, ofSaid, saidsOf, saidsListed}

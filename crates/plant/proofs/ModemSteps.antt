@@ -9,17 +9,17 @@ use lib.Dec.{eqb}
 use lib.ListN.{take}
 use borrow.Author.Tests.{eqb-true}
 use Rattle.keys.specs.declared.numbers.TekNumber.{TekNumber}
-use Rattle.keys.specs.declared.refusal.Answer.{Answer}
-use Rattle.keys.specs.declared.refusal.Answer.the-variants.{Done, Refused}
-use Rattle.keys.specs.Refusal.{answerNumber}
+use Rattle.questions.specs.declared.refusal.Answer.{Answer}
+use Rattle.questions.specs.declared.refusal.Answer.the-variants.{Done, Refused}
+use Rattle.questions.specs.Refusal.{answerNumber}
 use Rattle.keys.specs.Suites.{widthOf}
 use Rattle.keys.specs.Sealing.{Sealed}
-use Rattle.keys.proofs.TestLaws.{both}
+use Rattle.questions.proofs.TestLaws.{both}
 use Rattle.wire.specs.declared.fields.Params.{Params}
 use Rattle.wire.specs.Messages.{codeOf}
 use Rattle.wire.specs.Fields.{fieldsOf}
 use Rattle.wire.specs.Reading.{takenOf}
-use Rattle.machines.specs.Tek.{keyOf, pairOf}
+use Rattle.tek_machine.specs.Tek.{keyOf, pairOf}
 use Rattle.modem_receive.specs.Receive.{paramsWide, fieldsIn}
 use Rattle.modem.specs.Calls as Mdm
 use Rattle.modem_frames.specs.Frames.{machineOf, sealOf}

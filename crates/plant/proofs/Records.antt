@@ -4,9 +4,9 @@ use mathlib.Core.Path.{_≡_, refl, sym, _∙_, ap, subst}
 use mathlib.Core.Bool.{true}
 use mathlib.Core.List.{List, [], _∷_, _++_, map}
 use Prim.Native.Nat.{ℕ, _≤_}
-use Rattle.keys.specs.declared.settings.Settings.{Settings}
-use Rattle.keys.specs.Settings.{halfOf, settingsFit}
-use Rattle.keys.proofs.ListLaws.{each-nil}
+use Rattle.questions.specs.declared.settings.Settings.{Settings}
+use Rattle.questions.specs.Settings.{halfOf, settingsFit}
+use Rattle.questions.proofs.ListLaws.{each-nil}
 use Rattle.association.specs.declared.record.Assoc.{Assoc}
 use Rattle.association.specs.Made.{Accepted, keysMade, recordOf}
 use Rattle.headend_state.specs.declared.state.HeadEnd.{HeadEnd}

@@ -2,7 +2,7 @@
 use Rattle.keys.specs.Frame.{serves, openingOf}
 use Rattle.keys.specs.Octets.{padded, octetsOf, allZero, zeroPast}
 use Rattle.keys.specs.Sealing.{oneMore}
-use Rattle.keys.specs.Settings.{lifeFits, tekTimesFit, akTimesFit, waitFits, waitsFit, settingsFit}
+use Rattle.questions.specs.Settings.{lifeFits, tekTimesFit, akTimesFit, waitFits, waitsFit, settingsFit}
 use Rattle.keys.specs.Suites.{widthOf}
 use Rattle.keys.specs.Traffic.{keyFits, follows, pairFits}
 use Rattle.association.specs.Listing.{freshOf, namesOf}
@@ -16,7 +16,7 @@ use Rattle.wire.specs.Reading.{placeOf, takenOf, readOf}
 use Rattle.wire.specs.Writing.{paramsItems, descriptorItems, descriptorsItems, itemsOfType, itemsOfTypes, itemsOf, message, messageOf}
 use Rattle.records.specs.Records.{firstBy, listedRecords}
 use Rattle.authorization_machine.specs.Authorization.{authIdentifier, authCounter, authTimer, informsOf, requestsOf, authMoved, authStepOf}
-use Rattle.machines.specs.Tek.{counterAfter, identifierAfter, tekTimer, pairAfter, tekSends, tekMoved, tekStepOf}
+use Rattle.tek_machine.specs.Tek.{counterAfter, identifierAfter, tekTimer, pairAfter, tekSends, tekMoved, tekStepOf}
 use Rattle.machines.specs.Timers.{isDue}
 use Rattle.machines.specs.Transitions.{nextIn, authorizationTransitions, tekTransitions}
 use Rattle.modem_steps.specs.Clock.{authTimerEvent, tekTimerEvent, authFired, slotFired, slotsFired, clocked}

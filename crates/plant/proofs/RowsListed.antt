@@ -7,7 +7,7 @@ use Prim.Native.Nat.{ℕ, _+_, _*_, _≤_}
 use lib.Dec.{leb, eqb}
 use lib.ListN.{length}
 use borrow.Author.Tests.{leb-true, eqb-true}
-use Rattle.keys.proofs.TestLaws.{both, either}
+use Rattle.questions.proofs.TestLaws.{both, either}
 use Rattle.wire.proofs.HoldsLaws.{never}
 use Rattle.plant.specs.World.{World, Step, list, clock, established, reauth, up, down, sealDown, sealUp, openUp, openDown, Frame, Opening}
 use Rattle.plant.specs.Run.{Did, didOf, after}

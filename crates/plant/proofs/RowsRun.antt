@@ -6,7 +6,7 @@ use mathlib.Core.List.{List, [], _∷_, _++_, List·Memᴰ, List·Memᴰ·head, 
 use Prim.Native.Nat.{ℕ, _+_}
 use lib.Dec.{leb, eqb}
 use borrow.Author.Tests.{leb-true, eqb-true}
-use Rattle.keys.proofs.TestLaws.{both, either}
+use Rattle.questions.proofs.TestLaws.{both, either}
 use Rattle.wire.proofs.HoldsLaws.{never}
 use Rattle.plant.specs.World.{World, Step, list, clock, established, reauth, up, down, sealDown, sealUp, openUp, openDown, Frame, Opening}
 use Rattle.plant.specs.Run.{Did, didOf, after, worldAfter, traceFrom, Copy, Allowed, Counts}

@@ -7,7 +7,7 @@ use mathlib.Core.List.{List, [], _∷_, _++_}
 use lib.ListN.{getD, replicate}
 use Rattle.association.specs.declared.listing.Listing.{Listing}
 use Rattle.headend_state.specs.State.{noEntry}
-use Rattle.headend.specs.Calls.{receiveOctets}
+use Rattle.headend_rules.specs.Calls.{receiveOctets}
 use Rattle.plant.specs.World.{World, Step, list, clock, established, up, down, sealDown, sealUp, openUp, openDown}
 use Rattle.plant.specs.Run.{worldAfter}
 use Rattle.plant.proofs.RowsComputing.{computing}

@@ -4,7 +4,7 @@ use mathlib.Core.Bool.{true}
 use mathlib.Core.List.{List, [], _∷_, _++_}
 use Prim.Native.Nat.{ℕ, zero, suc, _+_, _*_}
 use lib.ListN.{replicate}
-use Rattle.keys.specs.declared.settings.Settings.{Settings}
+use Rattle.questions.specs.declared.settings.Settings.{Settings}
 use Rattle.association.specs.declared.listing.Listing.{Listing}
 use Rattle.association.specs.Search.{blank}
 use Rattle.plant.specs.World.{World, fresh, Step, clock, Frame, Opening}

@@ -3,7 +3,7 @@ use mathlib.Core.Path.{_≡_, refl, sym, _∙_, ap}
 use mathlib.Core.Logic.{_⊎_, inl, inr}
 use mathlib.Core.List.{List, [], _∷_, _++_, map, List·Memᴰ, List·Memᴰ·head, List·Memᴰ·tail}
 use Prim.Native.Nat.{ℕ, _+_}
-use Rattle.keys.proofs.ListLaws.{Each}
+use Rattle.questions.proofs.ListLaws.{Each}
 use Rattle.association.specs.Made.{SaidSuite}
 use Rattle.plant.proofs.LogLaws.{Log, logsTo, logsListed, to-said, Apart}
 

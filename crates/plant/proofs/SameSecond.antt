@@ -12,9 +12,9 @@ use Rattle.wire.specs.Writing.{messageOf, noDigest}
 use Rattle.records.specs.Records.{lookupOf}
 use Rattle.headend_limits.specs.Search.{ofRequest}
 use Rattle.headend_answers.specs.Answers.{keyReply}
-use Rattle.headend.specs.Calls.{receiveOctets}
-use Rattle.headend.proofs.FoundLaws.{same-found}
-use Rattle.headend.proofs.ReplyLaws.{replies, key-free, reply-seen}
+use Rattle.headend_rules.specs.Calls.{receiveOctets}
+use Rattle.headend_rules.proofs.FoundLaws.{same-found}
+use Rattle.headend_rules.proofs.ReplyLaws.{replies, key-free, reply-seen}
 use Rattle.plant.specs.World.{World, Step}
 use Rattle.plant.specs.Run.{worldAfter}
 use Rattle.plant.proofs.HeadKept.{run-keeps}

@@ -3,16 +3,16 @@ use mathlib.Core.Path.{_≡_, refl, subst}
 use mathlib.Core.Bool.{Bool, true, false}
 use mathlib.Core.List.{List, [], _∷_, _++_}
 use Prim.Native.Nat.{ℕ}
-use Rattle.keys.specs.declared.refusal.Answer.{Answer}
-use Rattle.keys.specs.declared.refusal.Answer.the-variants.{Done, Refused}
-use Rattle.keys.specs.declared.settings.Settings.{Settings}
+use Rattle.questions.specs.declared.refusal.Answer.{Answer}
+use Rattle.questions.specs.declared.refusal.Answer.the-variants.{Done, Refused}
+use Rattle.questions.specs.declared.settings.Settings.{Settings}
 use Rattle.association.specs.declared.record.Assoc.{Assoc}
 use Rattle.association.specs.declared.listing.Listing.{Listing}
 use Rattle.association.specs.Made.{Accepted}
-use Rattle.headend.specs.Calls as Head
-use Rattle.headend.specs.Minting.{acceptedList}
-use Rattle.headend.proofs.StateLaws.{receive-base}
-use Rattle.headend.proofs.FrameAnswers.{open-same}
+use Rattle.headend_rules.specs.Calls as Head
+use Rattle.headend_rules.specs.Minting.{acceptedList}
+use Rattle.headend_rules.proofs.StateLaws.{receive-base}
+use Rattle.headend_rules.proofs.FrameAnswers.{open-same}
 use Rattle.plant.specs.World.{World, fresh, Step, list, clock, established, reauth, up, down, sealDown, sealUp, openUp, openDown, clockedBy, clockAnswers}
 use Rattle.plant.specs.Run.{after}
 use Rattle.plant.specs.KeysMade.{acceptedIf, clockIf, acceptedIn, acceptedBy, SecondsTold}

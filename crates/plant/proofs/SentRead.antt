@@ -8,18 +8,18 @@ use lib.ListN.{length, take, drop, length-append}
 use lib.Seq.{take-append-seam, drop-append-seam}
 use lib.Dec.{eqb}
 use Rattle.keys.specs.declared.numbers.TekNumber.{TekNumber}
-use Rattle.keys.specs.declared.refusal.Refusal.the-variants.{NoKeyForFrame}
-use Rattle.keys.specs.declared.refusal.Answer.the-variants.{Done, Refused}
-use Rattle.keys.specs.Refusal.{answerNumber}
-use Rattle.keys.proofs.ListLaws.{Each, each-nil, each-cons}
-use Rattle.keys.proofs.TestLaws.{both}
+use Rattle.questions.specs.declared.refusal.Refusal.the-variants.{NoKeyForFrame}
+use Rattle.questions.specs.declared.refusal.Answer.the-variants.{Done, Refused}
+use Rattle.questions.specs.Refusal.{answerNumber}
+use Rattle.questions.proofs.ListLaws.{Each, each-nil, each-cons}
+use Rattle.questions.proofs.TestLaws.{both}
 use Rattle.wire.specs.declared.fields.Receiver.the-variants.{HeadEnd}
 use Rattle.wire.specs.Fields.{noParams}
 use Rattle.wire.specs.Reading.{readOf}
 use Rattle.wire.specs.Attributes.{two, octets}
 use Rattle.wire.specs.Messages.{lengthOf}
 use Rattle.wire.specs.Writing.{itemsOf, message, messageOf, noDigest}
-use Rattle.machines.specs.declared.tek.Request.{Request}
+use Rattle.tek_machine.specs.declared.tek.Request.{Request}
 use Rattle.modem_steps.specs.declared.state.Modem.{Modem}
 use Rattle.modem_steps.specs.declared.state.Out.{Out}
 use Rattle.modem_steps.specs.State.{starting}

@@ -6,12 +6,12 @@ use Prim.Native.Nat.{ℕ, _<_, _≤_}
 use native.Mathlib.Omega.{arith}
 use lib.ListN.{length, getD, length-take}
 use lib.Seq.{getD-take, map-set-same}
-use Rattle.keys.specs.declared.refusal.Answer.{Answer}
-use Rattle.keys.specs.declared.settings.Settings.{Settings}
-use Rattle.keys.specs.Refusal.{isDone}
-use Rattle.keys.specs.Settings.{halfOf, settingsFit}
-use Rattle.keys.proofs.TestLaws.{both}
-use Rattle.keys.proofs.AnswerLaws.{is-done}
+use Rattle.questions.specs.declared.refusal.Answer.{Answer}
+use Rattle.questions.specs.declared.settings.Settings.{Settings}
+use Rattle.questions.specs.Refusal.{isDone}
+use Rattle.questions.specs.Settings.{halfOf, settingsFit}
+use Rattle.questions.proofs.TestLaws.{both}
+use Rattle.questions.proofs.AnswerLaws.{is-done}
 use Rattle.association.specs.declared.record.Assoc.{Assoc}
 use Rattle.association.specs.declared.listing.Listing.{Listing}
 use Rattle.association.specs.Made.{Accepted, keysMade}
@@ -22,9 +22,9 @@ use Rattle.headend_state.specs.Entries.{entriesOf, knownOf}
 use Rattle.keys.specs.Addresses.{addressFits}
 use Rattle.headend_answers.specs.Answers.{withKeys, keysAfter, stateAfter}
 use Rattle.headend_limits.proofs.LimitsLaws.{known-place}
-use Rattle.headend.specs.Calls as Head
-use Rattle.headend.specs.Minting.{namedPairs, acceptedList}
-use Rattle.headend.proofs.FrameAnswers.{open-same}
+use Rattle.headend_rules.specs.Calls as Head
+use Rattle.headend_rules.specs.Minting.{namedPairs, acceptedList}
+use Rattle.headend_rules.proofs.FrameAnswers.{open-same}
 use Rattle.modem.specs.Calls as Mdm
 use Rattle.modem.proofs.PairLaws.{established-keeps, reauth-keeps, receive-keeps, clock-done}
 use Rattle.modem_frames.proofs.FrameKept.{open-keeps, clock-depends}

@@ -8,15 +8,15 @@ use native.Mathlib.Omega.{arith}
 use lib.Dec.{leb}
 use borrow.Author.Tests.{le-leb}
 use Rattle.keys.specs.declared.numbers.TekNumber.{TekNumber}
-use Rattle.keys.specs.declared.settings.Settings.{Settings}
-use Rattle.keys.specs.declared.refusal.Answer.the-variants.{Done}
-use Rattle.keys.specs.Settings.{halfOf, settingsFit}
-use Rattle.keys.proofs.ListLaws.{each-nil}
+use Rattle.questions.specs.declared.settings.Settings.{Settings}
+use Rattle.questions.specs.declared.refusal.Answer.the-variants.{Done}
+use Rattle.questions.specs.Settings.{halfOf, settingsFit}
+use Rattle.questions.proofs.ListLaws.{each-nil}
 use Rattle.association.specs.declared.record.Assoc.{Assoc}
 use Rattle.keys.specs.Addresses.{addressFits}
 use Rattle.headend_state.specs.State as HeadState
 use Rattle.headend_limits.proofs.LimitsLaws.{head-facts}
-use Rattle.headend.proofs.FrameAnswers as HeadAnswers
+use Rattle.headend_rules.proofs.FrameAnswers as HeadAnswers
 use Rattle.modem.specs.Calls.{newQuestions, newOf}
 use Rattle.modem_limits.specs.Limits.{modemFits}
 use Rattle.modem_steps.specs.declared.state.Modem.{Modem}

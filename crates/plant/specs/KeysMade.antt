@@ -7,15 +7,15 @@ use mathlib.Core.List.{List, [], _∷_, _++_, map}
 use Prim.Native.Nat.{ℕ, _<_}
 use lib.Dec.{eqb}
 use lib.ListN.{getD, take}
-use Rattle.keys.specs.declared.refusal.Answer.{Answer}
-use Rattle.keys.specs.declared.refusal.Answer.the-variants.{Done, Refused}
+use Rattle.questions.specs.declared.refusal.Answer.{Answer}
+use Rattle.questions.specs.declared.refusal.Answer.the-variants.{Done, Refused}
 use Rattle.association.specs.declared.record.Assoc.{Assoc}
 use Rattle.association.specs.Made.{Made, SaidSuite, Accepted, keyOf, keysMade}
 use Rattle.association.specs.Made.{listing as madeByListing, clock as madeByClock}
 use Rattle.records.specs.Records.{none}
 use Rattle.headend_state.specs.declared.state.HeadEnd.{HeadEnd}
-use Rattle.headend.specs.Calls as Head
-use Rattle.headend.specs.Minting.{acceptedList, acceptedClock}
+use Rattle.headend_rules.specs.Calls as Head
+use Rattle.headend_rules.specs.Minting.{acceptedList, acceptedClock}
 use Rattle.plant.specs.World.{World, Step, list, clock, established, reauth, up, down, sealDown, sealUp, openUp, openDown, clockAnswers}
 use Rattle.plant.specs.Run.{after}
 

@@ -5,18 +5,18 @@ use mathlib.Core.List.{List, [], _∷_}
 use Prim.Native.Nat.{ℕ}
 use lib.Dec.{leb, eqb}
 use Rattle.keys.specs.declared.numbers.TekNumber.{TekNumber}
-use Rattle.keys.specs.declared.refusal.Answer.{Answer}
-use Rattle.keys.specs.declared.refusal.Answer.the-variants.{Done, Refused}
-use Rattle.keys.specs.declared.settings.Settings.{Settings}
-use Rattle.keys.specs.Refusal.{answerNumber, isDone}
+use Rattle.questions.specs.declared.refusal.Answer.{Answer}
+use Rattle.questions.specs.declared.refusal.Answer.the-variants.{Done, Refused}
+use Rattle.questions.specs.declared.settings.Settings.{Settings}
+use Rattle.questions.specs.Refusal.{answerNumber, isDone}
 use Rattle.keys.specs.Sealing.{KeyOut, Sealed}
 use Rattle.association.specs.declared.listing.Listing.{Listing}
 use Rattle.association.specs.declared.record.Assoc.{Assoc}
 use Rattle.headend_state.specs.declared.state.HeadEnd.{HeadEnd}
 use Rattle.headend_state.specs.State as HeadState
 use Rattle.headend_frames.specs.Frames.{HeadOpened}
-use Rattle.headend.specs.Calls as Head
-use Rattle.headend.specs.FrameCalls as HeadFrames
+use Rattle.headend_rules.specs.Calls as Head
+use Rattle.headend_rules.specs.FrameCalls as HeadFrames
 use Rattle.modem_steps.specs.declared.state.Modem.{Modem}
 use Rattle.modem_steps.specs.State as ModemState
 use Rattle.modem.specs.Calls as Mdm

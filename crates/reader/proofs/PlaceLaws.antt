@@ -16,7 +16,7 @@ use Rattle.holders.specs.declared.pass.Body.{Body}
 use Rattle.attributes.specs.Next.{nextAt}
 use Rattle.holders.specs.Slots.{bodySlot}
 use Rattle.holders.specs.Pass.{bodyTurn, bodyFrom, noBody, bodyPass}
-use Rattle.holders.specs.Compounds.{partOf, insideAt}
+use Rattle.compounds.specs.Compounds.{partOf, insideAt}
 use Rattle.attributes.proofs.ItemLaws.{At, nextAt-at, items-past, found-length}
 use Rattle.holders.proofs.BodyLaws.{turnBy}
 

@@ -8,9 +8,9 @@ use lib.Seq.{take-add, drop-at, length-take-le, getD-take}
 use lib.Dec.{leb}
 use native.Mathlib.Omega.{arith}
 use borrow.Author.Tests.{leb-true}
-use Rattle.keys.specs.declared.refusal.Refusal.the-variants.{CutMessage, CodeNotReceived, BadAttribute, WrongAttributes}
-use Rattle.keys.specs.declared.refusal.Answer.the-variants.{Done}
-use Rattle.keys.proofs.TestLaws.{both}
+use Rattle.questions.specs.declared.refusal.Refusal.the-variants.{CutMessage, CodeNotReceived, BadAttribute, WrongAttributes}
+use Rattle.questions.specs.declared.refusal.Answer.the-variants.{Done}
+use Rattle.questions.proofs.TestLaws.{both}
 use Rattle.wire.specs.declared.fields.Receiver.{Receiver}
 use Rattle.wire.specs.declared.fields.Reading.{Reading}
 use Rattle.wire.specs.Attributes.{items}
@@ -19,9 +19,9 @@ use Rattle.wire.specs.Messages.{codeOf, lengthOf, bodyOf, isWhole, receives, co
 use Rattle.wire.specs.Fields.{fieldsOf}
 use Rattle.wire.specs.Reading.{placeOf, takenOf, readOf}
 use Rattle.holders.specs.declared.pass.Body.{Body}
-use Rattle.holders.specs.declared.compound.Compounds.{Compounds}
+use Rattle.compounds.specs.declared.compound.Compounds.{Compounds}
 use Rattle.holders.specs.Pass.{bodyPass}
-use Rattle.holders.specs.Compounds.{compoundsOf}
+use Rattle.compounds.specs.Compounds.{compoundsOf}
 use Rattle.reader.specs.Taken.{toldIn, takenFrom, refusedReading}
 use Rattle.reader.proofs.CodeLaws.{Code, received-code}
 use Rattle.reader.proofs.SoundLaws.{compoundsIn, sound-code}

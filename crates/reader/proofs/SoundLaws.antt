@@ -8,11 +8,11 @@ use lib.Dec.{leb, eqb}
 use borrow.Author.Tests.{eqb-true}
 use Rattle.wire.specs.Attributes.{Item, attr, cut, items, values, valueAt, countOf, allOf, itemsWith}
 use Rattle.wire.specs.Ranges.{needs, among, neededOf, fits, compound, good, insideSound, sound}
-use Rattle.holders.specs.declared.compound.Compounds.{Compounds}
+use Rattle.compounds.specs.declared.compound.Compounds.{Compounds}
 use Rattle.holders.specs.Pass.{bodyPass, insidePass}
-use Rattle.holders.specs.Compounds.{pairOf, restSound, fourOf, compoundsOf}
+use Rattle.compounds.specs.Compounds.{pairOf, restSound, fourOf, compoundsOf}
 use Rattle.holders.proofs.BoolLaws.{and-four, and-pairs}
-use Rattle.holders.proofs.InsideLaws.{sound-13, sound-23}
+use Rattle.compounds.proofs.InsideLaws.{sound-13, sound-23}
 use Rattle.holders.proofs.HitLaws.{true-not-false}
 use Rattle.holders.proofs.BodyLaws.{keptBy, allSound, sound-is}
 use Rattle.reader.proofs.PlaceLaws.{upTo5, count-is, inside-0, inside-1, inside-2, inside-3}

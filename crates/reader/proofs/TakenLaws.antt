@@ -6,19 +6,19 @@ use mathlib.Core.Bool.{Bool, true, false, _&&_, cond}
 use lib.ListN.{length, getD, take, drop, replicate}
 use lib.Dec.{leb, eqb}
 use native.Mathlib.Omega.{arith}
-use Rattle.keys.specs.declared.refusal.Answer.the-variants.{Done}
+use Rattle.questions.specs.declared.refusal.Answer.the-variants.{Done}
 use Rattle.keys.specs.Octets.{padded}
-use Rattle.keys.proofs.TestLaws.{both}
+use Rattle.questions.proofs.TestLaws.{both}
 use Rattle.wire.specs.declared.fields.Place.{Place}
 use Rattle.wire.specs.declared.fields.Reading.{Reading}
 use Rattle.wire.specs.Attributes.{Item, items, itemsWith, values, valueAt, countOf, startFrom, be16, be32}
 use Rattle.wire.specs.Ranges.{neededOf, needs, among}
 use Rattle.wire.specs.Fields.{keyOctets, paramsOf, descriptorOf, carried, carriedCount, fieldsOf, noParams, noDescriptor}
 use Rattle.wire.specs.Reading.{noPlace, placeOf}
-use Rattle.holders.specs.declared.compound.Compounds.{Compounds}
+use Rattle.compounds.specs.declared.compound.Compounds.{Compounds}
 use Rattle.holders.specs.Slots.{typeSlot, noSlot}
 use Rattle.holders.specs.Pass.{bodyPass}
-use Rattle.holders.specs.Compounds.{pairOf, fourOf, compoundsOf}
+use Rattle.compounds.specs.Compounds.{pairOf, fourOf, compoundsOf}
 use Rattle.reader.specs.Taken.{once, toldIn, firstOf, placeIn, takenFrom}
 use Rattle.holders.proofs.SlotLaws.{slotOf, placed}
 use Rattle.holders.proofs.HitLaws.{true-not-false, type-10, type-12, type-9, type-16, type-7, type-11}

@@ -13,7 +13,7 @@ use Rattle.wire.specs.Messages.{asTold, insidesTold, compoundsTold, digestLast,
 use Rattle.wire.specs.Fields.{paramsOf, descriptorOf}
 use Rattle.holders.specs.Slots.{typeSlot}
 use Rattle.holders.specs.Pass.{bodyPass}
-use Rattle.holders.specs.Compounds.{descriptorRead, inOrderOf, pairOf, fourTold, fourOf, compoundsOf}
+use Rattle.compounds.specs.Compounds.{descriptorRead, inOrderOf, pairOf, fourTold, fourOf, compoundsOf}
 use Rattle.reader.specs.Taken.{once, toldIn}
 use Rattle.holders.proofs.SlotLaws.{once-is}
 use Rattle.holders.proofs.HitLaws.{type-10, type-12, type-9, type-16, type-7, type-11}

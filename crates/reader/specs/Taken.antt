@@ -4,8 +4,8 @@ use mathlib.Core.List.{List}
 use mathlib.Core.Bool.{Bool, true, _&&_, _||_, cond}
 use lib.ListN.{getD, take, drop}
 use lib.Dec.{leb, eqb}
-use Rattle.keys.specs.declared.refusal.Refusal.{Refusal}
-use Rattle.keys.specs.declared.refusal.Answer.the-variants.{Done, Refused}
+use Rattle.questions.specs.declared.refusal.Refusal.{Refusal}
+use Rattle.questions.specs.declared.refusal.Answer.the-variants.{Done, Refused}
 use Rattle.wire.specs.declared.fields.Place.{Place}
 use Rattle.wire.specs.declared.fields.Reading.{Reading}
 use Rattle.wire.specs.Attributes.{be16, be32}
@@ -13,7 +13,7 @@ use Rattle.wire.specs.Fields.{noFields}
 use Rattle.wire.specs.Reading.{noPlace}
 use Rattle.holders.specs.declared.pass.Slot.{Slot}
 use Rattle.holders.specs.declared.pass.Body.{Body}
-use Rattle.holders.specs.declared.compound.Compounds.{Compounds}
+use Rattle.compounds.specs.declared.compound.Compounds.{Compounds}
 use Rattle.holders.specs.Slots.{noSlot}
 
 -- ---- question 9 of a body: the slots are those of `Slots`

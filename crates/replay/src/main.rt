@@ -8,9 +8,9 @@ ghost use Rattle.replay_start.specs.Replay.{afterLine};
 ghost use Rattle.replay.specs.Fed.{kept, fedBy, fedAll, pendingIn, Fed};
 use libc::STDIN_FILENO;
 use libc::STDOUT_FILENO;
+use replay_start::lines::put_end;
 use replay_start::start::Replay;
 use replay_start::start::begin;
-use replay_turn::line::put_end;
 use replay_turn::line::take_line;
 
 // A run, and how many characters of the line that comes stand in the slice lent for it.

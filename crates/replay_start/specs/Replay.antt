@@ -4,19 +4,19 @@ use mathlib.Core.Bool.{Bool, cond, _&&_}
 use mathlib.Core.List.{List, [], _∷_}
 use Prim.Native.Nat.{ℕ}
 use lib.ListN.{replicate}
-use Rattle.keys.specs.declared.settings.Settings.{Settings}
-use Rattle.keys.specs.Refusal.{isDone}
-use Rattle.keys.specs.Settings.{noSettings}
+use Rattle.questions.specs.declared.settings.Settings.{Settings}
+use Rattle.questions.specs.Refusal.{isDone}
+use Rattle.questions.specs.Settings.{noSettings}
 use Rattle.association.specs.Search.{blank}
-use Rattle.headend.specs.Calls as Head
+use Rattle.headend_rules.specs.Calls as Head
 use Rattle.modem.specs.Calls as Mdm
 use Rattle.plant.specs.World.{fresh}
 use Rattle.replay_text.specs.declared.setup.ReadSettings.{ReadSettings}
 use Rattle.replay_text.specs.declared.setup.ReadModem.{ReadModem}
 use Rattle.replay_text.specs.Setup.{settingsNamesOf, modemNamesOf, settingsOf, modemOf}
 use Rattle.replay_text.specs.Answer.{countsText}
-use Rattle.apply_modem.specs.declared.ends.Ends.{Ends}
-use Rattle.apply_modem.specs.Steps.{endsOf}
+use Rattle.apply_rules.specs.declared.ends.Ends.{Ends}
+use Rattle.apply_rules.specs.Steps.{endsOf}
 use Rattle.replay_start.specs.declared.start.Stage.{Stage}
 use Rattle.replay_start.specs.declared.start.Stage.the-variants.{SettingsNames, SettingsValues, ModemNames, ModemValues, Running, Stopped}
 use Rattle.replay_start.specs.declared.start.Replay.{Replay}

@@ -8,9 +8,9 @@ use Rattle.calls.specs.declared.Kind.{Kind}
 use Rattle.plant.specs.World.{Step, stepOf}
 use Rattle.replay_text.specs.Call.{Told, callOf}
 use Rattle.replay_text.specs.Answer.{answerText}
-use Rattle.apply_modem.specs.declared.ends.Ends.{Ends}
-use Rattle.apply_modem.specs.Steps.{worldOf, endsOf, stepFor}
-use Rattle.apply_modem.specs.Gave.{gaveOf}
+use Rattle.apply_rules.specs.declared.ends.Ends.{Ends}
+use Rattle.apply_rules.specs.Steps.{worldOf, endsOf, stepFor}
+use Rattle.apply_rules.specs.Gave.{gaveOf}
 
 abbrev pub stepTold : Told → Step
 stepTold t = stepFor (t .call) (t .octets) (t .key) 16 16 342

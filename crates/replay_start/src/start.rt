@@ -2,13 +2,13 @@
 ghost use mathlib.Core.Path.{_≡_};
 ghost use Rattle.association.specs.Search.{blank};
 ghost use Rattle.replay_start.specs.Replay.{freshEnds, beginning, atStage, settingsRead, bothFit, modemRead};
-use apply_modem::ends::Ends;
+use apply_rules::ends::Ends;
 use association::record::Assoc;
 use association::search::missed_at;
 use headend_state::state::fresh;
-use keys::refusal::is_done;
-use keys::settings::Settings;
-use keys::settings::no_settings;
+use questions::refusal::is_done;
+use questions::settings::Settings;
+use questions::settings::no_settings;
 use replay_text::setup::ReadModem;
 use replay_text::setup::ReadSettings;
 

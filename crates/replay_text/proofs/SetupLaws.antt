@@ -7,7 +7,7 @@ use native.Mathlib.Omega.{arith}
 use lib.Dec.{eqb}
 use lib.ListN.{length, drop}
 use borrow.Author.Tests.{le-leb, lt-leb}
-use Rattle.keys.specs.declared.settings.Settings.{Settings}
+use Rattle.questions.specs.declared.settings.Settings.{Settings}
 use Rattle.line_fields.specs.declared.fields.Field.{Field}
 use Rattle.line_fields.specs.declared.fields.Num.{Num}
 use Rattle.replay_text.specs.declared.setup.ReadSettings.{ReadSettings}

@@ -4,8 +4,8 @@ use mathlib.Core.List.{List, [], _∷_}
 use Prim.Native.Nat.{ℕ, _+_}
 use lib.Dec.{eqb}
 use lib.ListN.{length}
-use Rattle.keys.specs.declared.settings.Settings.{Settings}
-use Rattle.keys.specs.Settings.{noSettings}
+use Rattle.questions.specs.declared.settings.Settings.{Settings}
+use Rattle.questions.specs.Settings.{noSettings}
 use Rattle.replay_text.specs.declared.setup.ReadSettings.{ReadSettings}
 use Rattle.replay_text.specs.declared.setup.ReadModem.{ReadModem}
 use Rattle.text.specs.Same.{sameOctets}

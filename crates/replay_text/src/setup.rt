@@ -5,16 +5,16 @@ ghost use Prim.Native.Nat.{_≤_};
 ghost use lib.ListN.{length};
 ghost use Rattle.replay_text.specs.Setup.{settingsNamesOf, modemNamesOf, settingsOf, settingsWhen, modemOf, modemWhen};
 ghost use Rattle.replay_text.specs.CallPlaces.{threeAt};
-use keys::settings::AkTimes;
-use keys::settings::Settings;
-use keys::settings::TekTimes;
-use keys::settings::Waits;
-use keys::settings::no_settings;
 use line_fields::fields::count_fields;
 use line_fields::fields::field_at;
 use line_fields::fields::number_of;
 use line_fields::fields::same;
 use line_fields::fields::to_u16;
+use questions::settings::AkTimes;
+use questions::settings::Settings;
+use questions::settings::TekTimes;
+use questions::settings::Waits;
+use questions::settings::no_settings;
 
 // The settings that a line says, zeros where it is none.
 pub struct ReadSettings {

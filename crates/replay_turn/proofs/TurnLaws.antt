@@ -20,11 +20,11 @@ use Rattle.line_fields.specs.Fields.{isLine}
 use Rattle.line_fields.specs.Hex.{octetsOf}
 use Rattle.replay_text.specs.Call.{Told, callOf}
 use Rattle.replay_text.specs.Reads.{Reads}
-use Rattle.apply_modem.specs.declared.ends.Ends.{Ends}
-use Rattle.apply_modem.specs.declared.ends.Applied.{Applied}
-use Rattle.apply_modem.specs.Steps.{worldOf, stepFor}
-use Rattle.apply_modem.specs.Gave.{gaveOf}
-use Rattle.apply_modem.specs.Applied.{appliedOf}
+use Rattle.apply_rules.specs.declared.ends.Ends.{Ends}
+use Rattle.apply_rules.specs.declared.ends.Applied.{Applied}
+use Rattle.apply_rules.specs.Steps.{worldOf, stepFor}
+use Rattle.apply_rules.specs.Gave.{gaveOf}
+use Rattle.apply_rules.specs.Applied.{appliedOf}
 use Rattle.replay_turn.specs.declared.turn.Turned.{Turned}
 use Rattle.replay_start.specs.Turn.{noCallText, answeredBy, endsAfter, turnTextFor, turnEndsFor}
 

@@ -3,14 +3,15 @@ ghost use mathlib.Core.Path.{_≡_};
 ghost use Prim.Native.Nat.{_+_, _*_, _≤_};
 ghost use lib.ListN.{length, take, drop};
 ghost use Rattle.keys.specs.Octets.{overlay};
-ghost use Rattle.apply_modem.specs.Steps.{stepFor};
+ghost use Rattle.apply_rules.specs.Steps.{stepFor};
 ghost use Rattle.line_fields.specs.Hex.{octetsOf};
 ghost use Rattle.replay_start.specs.Turn.{noCallText, answeredBy, endsAfter, turnText, turnEnds};
 use apply::apply::apply;
-use apply_modem::ends::Ends;
+use apply_rules::ends::Ends;
 use calls::Call;
 use line_fields::hex::Place;
 use line_fields::hex::put_octets_at;
+use replay_start::lines::put_no_call;
 use replay_text::answer::put_answer;
 use replay_text::call::read_call;
 
@@ -18,16 +19,6 @@ use replay_text::call::read_call;
 pub struct Turned {
     pub count: usize,
     pub ends: Ends,
-}
-
-// "?" and a line feed.
-pub fn put_no_call(out: &mut [u8]) -> usize
-    requires { ⌜ 1024 ≤ length (now out) ⌝ }
-    ensures { λ r. ⌜ (r ≡ 2) × (now (out .exit) ≡ overlay (now (out .entry)) noCallText) ⌝ }
-{
-    out[0] = b'?';
-    out[1] = 10;
-    2
 }
 
 // A call with its octets and its key, applied; the answer is written.

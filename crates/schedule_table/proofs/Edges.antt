@@ -2,7 +2,7 @@
 use mathlib.Core.Path.{_≡_, refl}
 use mathlib.Core.List.{List, [], _∷_, _++_}
 use Prim.Native.Nat.{ℕ}
-use Rattle.keys.specs.Settings.{lifeFits}
+use Rattle.questions.specs.Settings.{lifeFits}
 use Rattle.text.specs.Decimal.{isDigit, leading, valueFrom, valueOf, fitting, numberOf, numberAt, decimalWith, decimalOf}
 use Rattle.schedule_table.specs.declared.input.Input.the-variants.{Table}
 use Rattle.text.specs.Same.{sameOctets}

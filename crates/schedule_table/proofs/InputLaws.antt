@@ -10,8 +10,8 @@ use lib.Dec.{leb, ltb, eqb}
 use lib.ListN.{length, getD, take, drop, drop-of-length-le, List·getD-eq-default}
 use lib.Seq.{drop-cons, take-all, length-take-le}
 use borrow.Author.Tests.{eq-eqb, ne-eqb, eqb-true, eqb-false, leb-true}
-use Rattle.keys.proofs.ListLaws.{IfLt, if-lt}
-use Rattle.keys.proofs.TestLaws.{both, either}
+use Rattle.questions.proofs.ListLaws.{IfLt, if-lt}
+use Rattle.questions.proofs.TestLaws.{both, either}
 use Rattle.text.specs.declared.decimal.Number.{Number}
 use Rattle.text.specs.Decimal.{numberAt, numberOf, numberWhen, fitting, leading, valueOf, limit}
 use Rattle.schedule_table.specs.declared.input.Asked.{Asked}

@@ -4,7 +4,7 @@ use mathlib.Core.List.{List, [], _∷_, _++_}
 use Prim.Native.Nat.{ℕ, zero, suc, _+_, _-_, _/_, _%_}
 use lib.Dec.{leb, eqb}
 use lib.ListN.{length, take, getD, replicate}
-use Rattle.keys.specs.Settings.{lifeFits}
+use Rattle.questions.specs.Settings.{lifeFits}
 use Rattle.text.specs.Decimal.{numberAt, decimalOf}
 use Rattle.text.specs.Same.{sameOctets}
 use Rattle.association.specs.Made.{Made, Accepted, listing, clock, keysMade}

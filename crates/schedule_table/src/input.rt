@@ -6,7 +6,7 @@ ghost use lib.Dec.{eqb};
 ghost use lib.ListN.{length, take, getD};
 ghost use Rattle.text.specs.Same.{sameOctets};
 ghost use Rattle.schedule_table.specs.Schedule.{names, endsAt, askedFits, inputOf};
-use keys::settings::life_fits;
+use questions::settings::life_fits;
 use text::decimal::number_at;
 
 // The TEK lifetime, and the seconds of the listing and of the end.

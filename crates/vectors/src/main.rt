@@ -1,9 +1,9 @@
 // Prints whether the messages of document 000's appendix I are read and written as it says: I.4, I.5 and I.6.
 use attributes::octets::part;
 use check::same;
-use keys::refusal::Answer;
-use keys::refusal::answer_number;
 use libc::STDOUT_FILENO;
+use questions::refusal::Answer;
+use questions::refusal::answer_number;
 use reader::read::read;
 use wire::fields::Descriptor;
 use wire::fields::Fields;

@@ -7,7 +7,7 @@ use native.Mathlib.Omega.{arith}
 use lib.ListN.{take}
 use lib.Seq.{take-nil}
 use borrow.Author.Tests.{lt-leb}
-use Rattle.keys.specs.Apart.{pairsApart}
+use Rattle.questions.specs.Apart.{pairsApart}
 use Rattle.wire.specs.Messages.{isNone, different}
 
 pub pairs-different : (n a b c d : ℕ) → pairsApart n a b c d ≡ different (take n (a ∷ b ∷ c ∷ d ∷ []))

@@ -6,7 +6,7 @@ use mathlib.Core.Bool.{Bool, true, false, _&&_, _||_, not, cond}
 use lib.Dec.{leb, eqb}
 use native.Mathlib.Omega.{arith}
 use borrow.Author.Tests.{leb-true, leb-false, eqb-true}
-use Rattle.keys.proofs.TestLaws.{both}
+use Rattle.questions.proofs.TestLaws.{both}
 use Rattle.wire.specs.Attributes.{Item, countOf}
 use Rattle.wire.proofs.HoldsLaws.{never}
 use Rattle.wire.specs.Ranges.{Told, neededOf, among, needs}

@@ -7,7 +7,7 @@ use lib.ListN.{length, getD, take}
 use lib.Dec.{leb, eqb}
 use native.Mathlib.Omega.{arith}
 use borrow.Author.Tests.{eqb-true}
-use Rattle.keys.proofs.TestLaws.{both}
+use Rattle.questions.proofs.TestLaws.{both}
 use Rattle.keys.specs.Suites.{suiteKnown}
 use Rattle.wire.specs.declared.fields.Descriptor.{Descriptor}
 use Rattle.wire.specs.Attributes.{attr, items, values, countOf, valueAt, be16, two, octets}

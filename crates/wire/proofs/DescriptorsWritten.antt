@@ -7,7 +7,7 @@ use lib.ListN.{length, getD, take, length-append, length-take, List·getD-eq-def
 use lib.Dec.{leb, ltb, eqb}
 use native.Mathlib.Omega.{arith}
 use borrow.Author.Tests.{leb-true, ltb-true, ltb-false, lt-ltb}
-use Rattle.keys.proofs.TestLaws.{both}
+use Rattle.questions.proofs.TestLaws.{both}
 use Rattle.wire.specs.declared.fields.Descriptor.{Descriptor}
 use Rattle.wire.specs.Attributes.{values, valueAt, allOf, octets}
 use Rattle.wire.specs.Ranges.{needs, fits, compound, good}

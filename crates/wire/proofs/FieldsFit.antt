@@ -6,7 +6,7 @@ use mathlib.Core.Bool.{Bool, true, false, _&&_, _||_, not}
 use lib.ListN.{length}
 use lib.Dec.{leb, eqb}
 use borrow.Author.Tests.{leb-true}
-use Rattle.keys.proofs.TestLaws.{both}
+use Rattle.questions.proofs.TestLaws.{both}
 use Rattle.wire.specs.declared.fields.Fields.{Fields}
 use Rattle.wire.specs.Ranges.{needs}
 use Rattle.wire.specs.Limits.{carriedOr, headFits, placeFit, descriptorsFit, descriptorsZero, pairFit, paramsZero, fieldsFit, authKeyFits}

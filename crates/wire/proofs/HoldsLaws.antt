@@ -8,7 +8,7 @@ use lib.Seq.{drop-at, take-append-seam}
 use lib.Dec.{eqb}
 use native.Mathlib.Omega.{arith}
 use borrow.Author.Tests.{eqb-true, eq-eqb}
-use Rattle.keys.proofs.TestLaws.{both}
+use Rattle.questions.proofs.TestLaws.{both}
 use Rattle.wire.specs.Attributes.{Item, attr, cut, values, keepValue, countOf, valueAt, allOf, hereOr, startFrom, two, attrOctets, octets}
 use Rattle.wire.proofs.AttributesLaws.{Whole}
 

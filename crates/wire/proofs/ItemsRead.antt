@@ -7,7 +7,7 @@ use lib.ListN.{length, getD, take}
 use lib.Dec.{leb, eqb}
 use native.Mathlib.Omega.{arith}
 use borrow.Author.Tests.{eqb-true}
-use Rattle.keys.proofs.TestLaws.{both}
+use Rattle.questions.proofs.TestLaws.{both}
 use Rattle.wire.specs.declared.fields.Fields.{Fields}
 use Rattle.wire.specs.Attributes.{Item, values, countOf, valueAt, be16, be32, two, four, octets}
 use Rattle.wire.specs.Ranges.{Told, neededOf, needs, fits}

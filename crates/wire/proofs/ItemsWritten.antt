@@ -6,7 +6,7 @@ use mathlib.Core.Bool.{Bool, true, false, _||_, not, cond}
 use lib.ListN.{take}
 use lib.Dec.{eqb}
 use borrow.Author.Tests.{eqb-true, not-true}
-use Rattle.keys.proofs.TestLaws.{both}
+use Rattle.questions.proofs.TestLaws.{both}
 use Rattle.wire.specs.declared.fields.Fields.{Fields}
 use Rattle.wire.specs.Attributes.{Item, attr, values, allOf}
 use Rattle.wire.specs.Ranges.{Told, among, neededOf, needs}

@@ -5,15 +5,15 @@ use mathlib.Core.Bool.{true, false}
 use mathlib.Core.List.{List}
 use mathlib.Core.Logic.{_↔_}
 use native.Mathlib.Omega.{arith}
-use Rattle.keys.specs.declared.refusal.Refusal.{Refusal}
-use Rattle.keys.specs.declared.refusal.Refusal.the-variants.{CutMessage, CodeNotReceived, BadAttribute, WrongAttributes}
-use Rattle.keys.specs.declared.refusal.Answer.{Answer}
-use Rattle.keys.specs.declared.refusal.Answer.the-variants.{Done, Refused}
-use Rattle.keys.specs.Refusal.{numberOf}
+use Rattle.questions.specs.declared.refusal.Refusal.{Refusal}
+use Rattle.questions.specs.declared.refusal.Refusal.the-variants.{CutMessage, CodeNotReceived, BadAttribute, WrongAttributes}
+use Rattle.questions.specs.declared.refusal.Answer.{Answer}
+use Rattle.questions.specs.declared.refusal.Answer.the-variants.{Done, Refused}
+use Rattle.questions.specs.Refusal.{numberOf}
 use Rattle.wire.specs.declared.fields.Receiver.{Receiver}
 use Rattle.wire.specs.Messages.{isWhole, question7, question8, question9, messageQuestions, messageAnswer}
 use Rattle.wire.specs.Reading.{takenOf, readingFor, readOf}
-use Rattle.keys.proofs.AnswerLaws.{NoAt, met-done, done-met, no-refused, refused-no}
+use Rattle.questions.proofs.AnswerLaws.{NoAt, met-done, done-met, no-refused, refused-no}
 
 module _ (e : Receiver) (s : List ℕ) where
   -- the first no stands at the place that its number tells

@@ -7,7 +7,7 @@ use lib.ListN.{replicate}
 use lib.Dec.{ltb, eqb}
 use native.Mathlib.Omega.{arith}
 use borrow.Author.Tests.{eqb-true, eqb-false, ne-eqb, ltb-true, not-true}
-use Rattle.keys.proofs.TestLaws.{both}
+use Rattle.questions.proofs.TestLaws.{both}
 use Rattle.wire.specs.Attributes.{Item, attr, cut, values, countOf}
 use Rattle.wire.specs.Ranges.{Told, among, neededOf}
 use Rattle.wire.specs.Standard.{typesOf, orderOf, sameTypes, ordered}

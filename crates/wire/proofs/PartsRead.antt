@@ -8,7 +8,7 @@ use lib.Seq.{take-length, take-take, take-append-seam}
 use lib.Dec.{leb, eqb}
 use native.Mathlib.Omega.{arith}
 use borrow.Author.Tests.{eqb-true}
-use Rattle.keys.proofs.TestLaws.{both}
+use Rattle.questions.proofs.TestLaws.{both}
 use Rattle.keys.proofs.OctetsLaws.{octets-zero-past}
 use Rattle.keys.specs.Octets.{padded, octetsOf, zeroPast}
 use Rattle.keys.specs.Suites.{widthKnown}

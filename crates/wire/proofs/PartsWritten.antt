@@ -8,7 +8,7 @@ use lib.Seq.{length-take-le, take-append-add}
 use lib.Dec.{leb, ltb, eqb}
 use native.Mathlib.Omega.{arith}
 use borrow.Author.Tests.{leb-true, eqb-true, le-leb}
-use Rattle.keys.proofs.TestLaws.{both}
+use Rattle.questions.proofs.TestLaws.{both}
 use Rattle.keys.specs.Octets.{padded, allZero, zeroPast}
 use Rattle.keys.specs.Suites.{suiteKnown, widthKnown}
 use Rattle.wire.specs.declared.fields.KeyOctets.{KeyOctets}

@@ -7,7 +7,7 @@ use lib.ListN.{length, take, drop, replicate, length-append, length-take, length
 use lib.Dec.{leb}
 use native.Mathlib.Omega.{arith}
 use borrow.Author.Tests.{eqb-true, le-leb}
-use Rattle.keys.specs.declared.refusal.Answer.the-variants.{Done}
+use Rattle.questions.specs.declared.refusal.Answer.the-variants.{Done}
 use Rattle.wire.specs.declared.fields.Receiver.{Receiver}
 use Rattle.wire.specs.declared.fields.Place.{Place}
 use Rattle.wire.specs.Attributes.{items, valueAt, startFrom}

@@ -7,8 +7,8 @@ use lib.ListN.{length, getD, List·getD-eq-default}
 use lib.Dec.{leb, ltb, eqb}
 use native.Mathlib.Omega.{arith}
 use borrow.Author.Tests.{ltb-true, ltb-false, eqb-true, le-leb, ne-eqb}
-use Rattle.keys.proofs.TestLaws.{both}
-use Rattle.keys.specs.declared.refusal.Answer.the-variants.{Done}
+use Rattle.questions.proofs.TestLaws.{both}
+use Rattle.questions.specs.declared.refusal.Answer.the-variants.{Done}
 use Rattle.keys.specs.Octets.{padded, allZero, zeroPast}
 use Rattle.wire.specs.declared.fields.Descriptor.{Descriptor}
 use Rattle.wire.specs.declared.fields.Params.{Params}

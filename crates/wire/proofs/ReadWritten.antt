@@ -8,8 +8,8 @@ use lib.Seq.{take-at, take-all}
 use lib.Dec.{eqb}
 use native.Mathlib.Omega.{arith}
 use borrow.Author.Tests.{eqb-true}
-use Rattle.keys.proofs.TestLaws.{both}
-use Rattle.keys.specs.declared.refusal.Answer.the-variants.{Done}
+use Rattle.questions.proofs.TestLaws.{both}
+use Rattle.questions.specs.declared.refusal.Answer.the-variants.{Done}
 use Rattle.wire.specs.declared.fields.Fields.{Fields}
 use Rattle.wire.specs.declared.fields.Receiver.{Receiver}
 use Rattle.wire.specs.Attributes.{Item, attr, items, values, valueAt, startFrom, two, attrOctets, octets}

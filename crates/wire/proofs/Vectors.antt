@@ -2,9 +2,9 @@
 use mathlib.Core.Path.{_≡_, refl}
 use mathlib.Core.Bool.{true}
 use lib.ListN.{take, set}
-use Rattle.keys.specs.declared.refusal.Answer.the-variants.{Done, Refused}
-use Rattle.keys.specs.declared.refusal.Refusal.the-variants.{CutMessage, BadAttribute}
-use Rattle.keys.specs.Refusal.{answerNumber}
+use Rattle.questions.specs.declared.refusal.Answer.the-variants.{Done, Refused}
+use Rattle.questions.specs.declared.refusal.Refusal.the-variants.{CutMessage, BadAttribute}
+use Rattle.questions.specs.Refusal.{answerNumber}
 use Rattle.keys.specs.Octets.{padded}
 use Rattle.wire.specs.declared.fields.Receiver.the-variants.{Modem}
 use Rattle.wire.specs.Attributes.{itemsWith, items, values, countOf, valueAt, lastFrom, allOf, startFrom, be16, be32}

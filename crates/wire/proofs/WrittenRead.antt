@@ -8,10 +8,10 @@ use lib.ListN.{length, getD, take, drop, length-append}
 use lib.Seq.{take-at}
 use native.Mathlib.Omega.{arith}
 use borrow.Author.Tests.{le-leb}
-use Rattle.keys.specs.declared.refusal.Answer.the-variants.{Done}
-use Rattle.keys.specs.declared.refusal.Refusal.the-variants.{OutOfLimits, WrongLength}
-use Rattle.keys.specs.Questions.{firstNo}
-use Rattle.keys.proofs.TestLaws.{both}
+use Rattle.questions.specs.declared.refusal.Answer.the-variants.{Done}
+use Rattle.questions.specs.declared.refusal.Refusal.the-variants.{OutOfLimits, WrongLength}
+use Rattle.questions.specs.Questions.{firstNo}
+use Rattle.questions.proofs.TestLaws.{both}
 use Rattle.wire.specs.declared.fields.Fields.{Fields}
 use Rattle.wire.specs.declared.fields.Place.{Place}
 use Rattle.wire.specs.Attributes.{items, values, countOf, valueAt, startFrom, two, octets}

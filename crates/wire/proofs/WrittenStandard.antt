@@ -6,7 +6,7 @@ use mathlib.Core.Bool.{true}
 use lib.ListN.{length, take, replicate}
 use native.Mathlib.Omega.{arith}
 use borrow.Author.Tests.{eq-eqb}
-use Rattle.keys.specs.declared.refusal.Answer.the-variants.{Done}
+use Rattle.questions.specs.declared.refusal.Answer.the-variants.{Done}
 use Rattle.wire.specs.declared.fields.Descriptor.{Descriptor}
 use Rattle.wire.specs.declared.fields.Fields.{Fields}
 use Rattle.wire.specs.Attributes.{items, values, countOf, octets}

@@ -4,9 +4,9 @@ use mathlib.Core.List.{List, [], _∷_}
 use mathlib.Core.Bool.{Bool, true, _&&_, _||_, not, cond}
 use lib.ListN.{length, getD, take, drop}
 use lib.Dec.{leb, ltb, eqb}
-use Rattle.keys.specs.declared.refusal.Answer.{Answer}
-use Rattle.keys.specs.declared.refusal.Refusal.the-variants.{CutMessage, CodeNotReceived, BadAttribute, WrongAttributes}
-use Rattle.keys.specs.Questions.{Question, firstNo}
+use Rattle.questions.specs.declared.refusal.Answer.{Answer}
+use Rattle.questions.specs.declared.refusal.Refusal.the-variants.{CutMessage, CodeNotReceived, BadAttribute, WrongAttributes}
+use Rattle.questions.specs.Questions.{Question, firstNo}
 use Rattle.wire.specs.declared.fields.Receiver.{Receiver}
 use Rattle.wire.specs.declared.fields.Receiver.the-variants.{HeadEnd, Modem}
 use Rattle.wire.specs.Attributes.{Item, items, values, countOf, valueAt, lastType, be16, be32}

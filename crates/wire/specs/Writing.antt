@@ -4,10 +4,10 @@ use mathlib.Core.List.{List, [], _∷_, _++_}
 use mathlib.Core.Bool.{_&&_, cond}
 use lib.ListN.{length, take, replicate}
 use lib.Dec.{leb, eqb}
-use Rattle.keys.specs.declared.refusal.Answer.{Answer}
-use Rattle.keys.specs.declared.refusal.Answer.the-variants.{Done, Refused}
-use Rattle.keys.specs.declared.refusal.Refusal.the-variants.{OutOfLimits, WrongLength}
-use Rattle.keys.specs.Questions.{Question, firstNo}
+use Rattle.questions.specs.declared.refusal.Answer.{Answer}
+use Rattle.questions.specs.declared.refusal.Answer.the-variants.{Done, Refused}
+use Rattle.questions.specs.declared.refusal.Refusal.the-variants.{OutOfLimits, WrongLength}
+use Rattle.questions.specs.Questions.{Question, firstNo}
 use Rattle.wire.specs.declared.fields.KeyOctets.{KeyOctets}
 use Rattle.wire.specs.declared.fields.Params.{Params}
 use Rattle.wire.specs.declared.fields.Descriptor.{Descriptor}

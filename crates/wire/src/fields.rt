@@ -4,7 +4,7 @@ ghost use lib.ListN.{replicate};
 ghost use Rattle.wire.specs.Fields.{noDescriptor, noParams};
 use keys::numbers::AkNumber;
 use keys::numbers::TekNumber;
-use keys::refusal::Answer;
+use questions::refusal::Answer;
 
 // A TEK or a vector: its octets from the front of 16, zeros after them.
 #[repr(C)]

@@ -3,8 +3,8 @@ use Prim.Native.Nat.{ℕ, zero, suc}
 use mathlib.Core.Path.{_≡_, refl, sym, ap, _∙_}
 use mathlib.Core.List.{List, [], _∷_}
 use lib.ListN.{length, getD, take}
-use Rattle.keys.specs.Apart.{pairsApart}
-use Rattle.keys.proofs.ListLaws.{of-four}
+use Rattle.questions.specs.Apart.{pairsApart}
+use Rattle.questions.proofs.ListLaws.{of-four}
 use Rattle.wire.specs.Messages.{different}
 use Rattle.wire.proofs.ApartLaws.{pairs-different}
 use Rattle.wire.specs.declared.fields.Descriptor.{Descriptor}

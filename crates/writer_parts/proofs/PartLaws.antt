@@ -8,7 +8,7 @@ use lib.Dec.{ltb}
 use lib.ListN.{length, getD, take, length-append, length-take}
 use lib.Seq.{take-nil, take-all}
 use borrow.Author.Tests.{lt-ltb}
-use Rattle.keys.proofs.ListLaws.{of-four, IfLt, if-lt}
+use Rattle.questions.proofs.ListLaws.{of-four, IfLt, if-lt}
 use Rattle.wire.specs.declared.fields.Params.{Params}
 use Rattle.wire.specs.declared.fields.Descriptor.{Descriptor}
 use Rattle.wire.specs.Attributes.{Item, attr, octets, attrOctets}

@@ -1,7 +1,7 @@
 -- `apply::apply::apply` meets its contract.
 use mathlib.Core.Path.{refl}
 use Rattle.calls.specs.declared.Kind.the-variants.{List as KindList, Clock, Established, Reauth, Up, Down, SealDown, SealUp, OpenUp, OpenDown}
-use Rattle.apply_modem.proofs.ApplyLaws.{told}
+use Rattle.apply_rules.proofs.ApplyLaws.{told}
 use borrow.Author.Needs.{needs}
 use Rattle.apply.proofs.apply.apply.Statement.{statement}
 use Rattle.apply.proofs.apply.apply.Tie as tie

@@ -1,5 +1,5 @@
 -- `apply::head::apply_clock` meets its contract.
-use Rattle.apply_modem.proofs.ApplyLaws.{clock-head-refused, clock-both}
+use Rattle.apply_rules.proofs.ApplyLaws.{clock-head-refused, clock-both}
 use mathlib.Core.Path.{sym, _∙_}
 use lib.ListN.{length}
 use borrow.Author.Needs.{needs}

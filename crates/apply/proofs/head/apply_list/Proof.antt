@@ -1,5 +1,5 @@
 -- `apply::head::apply_list` meets its contract.
-use Rattle.apply_modem.proofs.ApplyLaws.{list-applied}
+use Rattle.apply_rules.proofs.ApplyLaws.{list-applied}
 use borrow.Author.Needs.{needs}
 use Rattle.apply.proofs.head.apply_list.Statement.{statement}
 use Rattle.apply.proofs.head.apply_list.Tie as tie

@@ -1,5 +1,5 @@
 -- `apply::head::apply_open_up` meets its contract.
-use Rattle.apply_modem.proofs.ApplyLaws.{open-up-applied}
+use Rattle.apply_rules.proofs.ApplyLaws.{open-up-applied}
 use borrow.Author.Needs.{needs}
 use Rattle.apply.proofs.head.apply_open_up.Statement.{statement}
 use Rattle.apply.proofs.head.apply_open_up.Tie as tie

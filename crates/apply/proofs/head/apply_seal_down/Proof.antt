@@ -1,5 +1,5 @@
 -- `apply::head::apply_seal_down` meets its contract.
-use Rattle.apply_modem.proofs.ApplyLaws.{seal-down-applied}
+use Rattle.apply_rules.proofs.ApplyLaws.{seal-down-applied}
 use borrow.Author.Needs.{needs}
 use Rattle.apply.proofs.head.apply_seal_down.Statement.{statement}
 use Rattle.apply.proofs.head.apply_seal_down.Tie as tie

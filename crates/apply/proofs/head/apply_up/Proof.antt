@@ -1,5 +1,5 @@
 -- `apply::head::apply_up` meets its contract.
-use Rattle.apply_modem.proofs.ApplyLaws.{up-applied}
+use Rattle.apply_rules.proofs.ApplyLaws.{up-applied}
 use borrow.Author.Needs.{needs}
 use Rattle.apply.proofs.head.apply_up.Statement.{statement}
 use Rattle.apply.proofs.head.apply_up.Tie as tie

@@ -1,5 +1,5 @@
 -- `apply::head::of_head` meets its contract.
-use Rattle.apply_modem.proofs.ApplyLaws.{quiet-numbered}
+use Rattle.apply_rules.proofs.ApplyLaws.{quiet-numbered}
 use borrow.Author.Needs.{needs}
 use Rattle.apply.proofs.head.of_head.Statement.{statement}
 use Rattle.apply.proofs.head.of_head.Tie as tie

@@ -66,7 +66,7 @@ use Rattle.apply_held.proofs.held.with_records.Symbol as with-records-d
 use Rattle.apply_held.proofs.held.with_records.Symbol.{name as #apply-held·held·with-records}
 use Rattle.apply_held.proofs.held.with_records.Met as with-records-thm
 use Rattle.apply_held.proofs.ArrayLent.{array-lent, array-back}
-use Rattle.headend.specs.Calls.{listOf, listRecords}
+use Rattle.headend_rules.specs.Calls.{listOf, listRecords}
 use Rattle.apply_held.proofs.held.list_held.Key.{name as #here}
 use Rattle.apply_held.proofs.held.list_held as list-held₀
 use Rattle.apply_held.proofs.held.list_held.Statement as stated

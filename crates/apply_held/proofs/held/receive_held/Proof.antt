@@ -57,7 +57,7 @@ use Rattle.headend.proofs.calls.receive.Symbol.{name as #headend·calls·receiv
 use Rattle.headend.proofs.calls.receive.Met as receive-thm
 use Rattle.apply_held.proofs.ArrayLent.{array-shown, array-home, Part}
 use Rattle.keys.specs.Octets.{overlay}
-use Rattle.headend.specs.Calls.{receiveOf, receiveOctets}
+use Rattle.headend_rules.specs.Calls.{receiveOf, receiveOctets}
 use Rattle.apply_held.proofs.held.receive_held.Key.{name as #here}
 use Rattle.apply_held.proofs.held.receive_held as receive-held₀
 use Rattle.apply_held.proofs.held.receive_held.Statement as stated

@@ -1,5 +1,5 @@
 -- `apply_modem::modem_side::apply_established` meets its contract.
-use Rattle.apply_modem.proofs.ApplyLaws.{established-applied}
+use Rattle.apply_rules.proofs.ApplyLaws.{established-applied}
 use borrow.Author.Needs.{needs}
 use Rattle.apply_modem.proofs.modem_side.apply_established.Statement.{statement}
 use Rattle.apply_modem.proofs.modem_side.apply_established.Tie as tie

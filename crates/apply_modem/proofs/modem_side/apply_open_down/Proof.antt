@@ -1,5 +1,5 @@
 -- `apply_modem::modem_side::apply_open_down` meets its contract.
-use Rattle.apply_modem.proofs.ApplyLaws.{open-down-applied}
+use Rattle.apply_rules.proofs.ApplyLaws.{open-down-applied}
 use borrow.Author.Needs.{needs}
 use Rattle.apply_modem.proofs.modem_side.apply_open_down.Statement.{statement}
 use Rattle.apply_modem.proofs.modem_side.apply_open_down.Tie as tie

@@ -1,5 +1,5 @@
 -- `apply_modem::modem_side::apply_reauth` meets its contract.
-use Rattle.apply_modem.proofs.ApplyLaws.{reauth-applied}
+use Rattle.apply_rules.proofs.ApplyLaws.{reauth-applied}
 use borrow.Author.Needs.{needs}
 use Rattle.apply_modem.proofs.modem_side.apply_reauth.Statement.{statement}
 use Rattle.apply_modem.proofs.modem_side.apply_reauth.Tie as tie

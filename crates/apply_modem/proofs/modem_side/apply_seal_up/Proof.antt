@@ -1,5 +1,5 @@
 -- `apply_modem::modem_side::apply_seal_up` meets its contract.
-use Rattle.apply_modem.proofs.ApplyLaws.{seal-up-applied}
+use Rattle.apply_rules.proofs.ApplyLaws.{seal-up-applied}
 use borrow.Author.Needs.{needs}
 use Rattle.apply_modem.proofs.modem_side.apply_seal_up.Statement.{statement}
 use Rattle.apply_modem.proofs.modem_side.apply_seal_up.Tie as tie

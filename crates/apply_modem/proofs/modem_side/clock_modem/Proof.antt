@@ -1,5 +1,5 @@
 -- `apply_modem::modem_side::clock_modem` meets its contract.
-use Rattle.apply_modem.proofs.ApplyLaws.{clock-refused, clock-done}
+use Rattle.apply_rules.proofs.ApplyLaws.{clock-refused, clock-done}
 use mathlib.Core.Path.{sym, _∙_}
 use borrow.Author.Needs.{needs}
 use borrow.Author.Tests.{not-true, not-false}

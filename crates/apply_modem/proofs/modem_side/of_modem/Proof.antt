@@ -1,5 +1,5 @@
 -- `apply_modem::modem_side::of_modem` meets its contract.
-use Rattle.apply_modem.proofs.ApplyLaws.{quiet-numbered}
+use Rattle.apply_rules.proofs.ApplyLaws.{quiet-numbered}
 use borrow.Author.Needs.{needs}
 use Rattle.apply_modem.proofs.modem_side.of_modem.Statement.{statement}
 use Rattle.apply_modem.proofs.modem_side.of_modem.Tie as tie

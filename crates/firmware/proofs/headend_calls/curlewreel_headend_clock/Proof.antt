@@ -38,9 +38,9 @@ use denote.Triple.Spec.{Meets, tripleOf}
 use denote.Triple.Table.{entered, cited}
 use denote.Triple.Walked.{says, Stays, stay-none-slice, stay-none, gave-slice, walkOf, goes-none-slice, goes-none, goes-gave-slice, Walks, ends-at, walked, walk-meets}
 use denote.Exit.{yes}
-use Rattle.firmware.specs.declared.headend_calls.HeadEndCall.{HeadEndCall}
-use Rattle.firmware.proofs.headend_calls.HeadEndCall as HeadEndCall₁
-use Rattle.firmware.proofs.headend_calls.HeadEndCall.Laws as HeadEndCall₁′
+use Rattle.for_c.specs.declared.headend_values.HeadEndCall.{HeadEndCall}
+use Rattle.for_c.proofs.headend_values.HeadEndCall as HeadEndCall₁
+use Rattle.for_c.proofs.headend_values.HeadEndCall.Laws as HeadEndCall₁′
 use Rattle.headend_state.specs.declared.state.HeadEnd.{HeadEnd}
 use Rattle.headend_state.proofs.state.HeadEnd as HeadEnd₁
 use Rattle.headend_state.proofs.state.HeadEnd.Laws as HeadEnd₁′
@@ -53,12 +53,12 @@ use Rattle.headend.proofs.calls.clock as clock′
 use Rattle.headend.proofs.calls.clock.Symbol as clock-def
 use Rattle.headend.proofs.calls.clock.Symbol.{name as #headend·calls·clock}
 use Rattle.headend.proofs.calls.clock.Met as clock-thm
-use Rattle.firmware.proofs.headend_calls.headend_call as headend-call′
-use Rattle.firmware.proofs.headend_calls.headend_call.Symbol as headend-call-def
-use Rattle.firmware.proofs.headend_calls.headend_call.Symbol.{name as #firmware·headend-calls·headend-call}
-use Rattle.firmware.proofs.headend_calls.headend_call.Met as headend-call-thm
-use Rattle.headend.specs.Calls.{clockOf, clockRecords}
-use Rattle.firmware.specs.HeadEndCalls.{headEndCall}
+use Rattle.for_c.proofs.headend_values.headend_call as headend-call′
+use Rattle.for_c.proofs.headend_values.headend_call.Symbol as headend-call-def
+use Rattle.for_c.proofs.headend_values.headend_call.Symbol.{name as #for-c·headend-values·headend-call}
+use Rattle.for_c.proofs.headend_values.headend_call.Met as headend-call-thm
+use Rattle.headend_rules.specs.Calls.{clockOf, clockRecords}
+use Rattle.for_c.specs.HeadEndCalls.{headEndCall}
 use Rattle.firmware.proofs.headend_calls.curlewreel_headend_clock.Key.{name as #here}
 use Rattle.firmware.proofs.headend_calls.curlewreel_headend_clock as curlewreel-headend-clock₀
 use Rattle.firmware.proofs.headend_calls.curlewreel_headend_clock.Statement as stated
@@ -141,7 +141,7 @@ module _ {M : Type 1} (𝓤 : URA M) (H : Heap 𝓤) (A : Atoms 𝓤) (W : Given
     said-headend-call-last : (r : HeadEndCall) → ent 𝓤 (ensured 𝓤 H A headend-call′.ended (headend-call′.clauses 𝓤 H A mem run) tt headend-call-last-args tt r) (fact 𝓤 (r ≡ headEndCall got))
     said-headend-call-last r = exE 𝓤 _ (λ ws. snd∗ 𝓤 (sem 𝓤 H A (lasts headend-call′.ended tt headend-call-last-args ws)) (fact 𝓤 (r ≡ headEndCall got)))
 
-  module _ (C : Calls 𝓤 H) (Λ : Loops 𝓤 H) (fm : FmC 𝓤 H (W .laws) C) (known-clock : Triple 𝓤 (C #headend·calls·clock) (Clockᶜ 𝓤 H A mem run)) (known-headend-call : Triple 𝓤 (C #firmware·headend-calls·headend-call) (HeadendCallᶜ 𝓤 H A mem run)) (l₀ l₁ l₂ l₃ l₄ l₅ l₆ l₇ : ℕ) where
+  module _ (C : Calls 𝓤 H) (Λ : Loops 𝓤 H) (fm : FmC 𝓤 H (W .laws) C) (known-clock : Triple 𝓤 (C #headend·calls·clock) (Clockᶜ 𝓤 H A mem run)) (known-headend-call : Triple 𝓤 (C #for-c·headend-values·headend-call) (HeadendCallᶜ 𝓤 H A mem run)) (l₀ l₁ l₂ l₃ l₄ l₅ l₆ l₇ : ℕ) where
     abbrev En : Env 𝓤 H
     En = (HeadEndCall₁′.mir, l₀) ∷ (HeadEnd₁′.mir, l₁) ∷ ((sliceTy (tyRef (named 0) mut (pointee (Assoc₁.the-row .written)))), l₂) ∷ ((tyInt w64), l₃) ∷ ((sliceTy (tyRef (named 1) imm (tyInt w8))), l₄) ∷ (Called₁′.mir, l₅) ∷ ((tyRef erased mut (pointee (Assoc₁.the-row .written))), l₆) ∷ ((sliceTy (tyRef erased mut (pointee (Assoc₁.the-row .written)))), l₇) ∷ []
 
@@ -199,7 +199,7 @@ module _ {M : Type 1} (𝓤 : URA M) (H : Heap 𝓤) (A : Atoms 𝓤) (W : Given
         keep ! (3 ∷ 2 ∷ 6 ∷ 0 ∷ []) $
         by ! (exits r w (zs .1 .0) is same-records (r-said ∙ ap (λ (z : Called). headEndCall z) (right .0), right .1))))))))))))
 
-  module _ (C : Calls 𝓤 H) (Λ : Loops 𝓤 H) (fm : FmC 𝓤 H (W .laws) C) (known-clock : Triple 𝓤 (C #headend·calls·clock) (Clockᶜ 𝓤 H A mem run)) (known-headend-call : Triple 𝓤 (C #firmware·headend-calls·headend-call) (HeadendCallᶜ 𝓤 H A mem run)) where
+  module _ (C : Calls 𝓤 H) (Λ : Loops 𝓤 H) (fm : FmC 𝓤 H (W .laws) C) (known-clock : Triple 𝓤 (C #headend·calls·clock) (Clockᶜ 𝓤 H A mem run)) (known-headend-call : Triple 𝓤 (C #for-c·headend-values·headend-call) (HeadendCallᶜ 𝓤 H A mem run)) where
     walk : ent 𝓤 (onEntry 𝓤 H A curlewreel-headend-clock₀.signature (κ, (μ, tt)) (q, (p, tt)) a vals) (WpFn 𝓤 H C Λ code.function ((LL.val HeadEnd₁.the-type HeadEnd₁′.the-laws h) ∷ records-val ∷ (vint w64 t) ∷ material-val ∷ []) Post)
     walk =
         qed W ((‵ (flft κ q) ⊛ (‵ (flft μ p) ⊛ ‵ ftrue)) ∷ ‵ (owns (HeadEnd₁.the-row ∷ MutSlice (named 0) κ Assoc₁.the-row ∷ u64 ∷ ShrSlice (named 1) μ u8 ∷ []) a vals) ∷ []) ∵ enter ! C Λ code.function ((LL.val HeadEnd₁.the-type HeadEnd₁′.the-laws h) ∷ records-val ∷ (vint w64 t) ∷ material-val ∷ []) _ $
@@ -210,13 +210,13 @@ module _ {M : Type 1} (𝓤 : URA M) (H : Heap 𝓤) (A : Atoms 𝓤) (W : Given
         stage-1 C Λ fm known-clock known-headend-call l₀ l₁ l₂ l₃ l₄ l₅ l₆ l₇))))))))
 
 module _ {M : Type 1} (𝓤 : URA M) (H : Heap 𝓤) (A : Atoms 𝓤) (W : Given 𝓤 H A) (mem : Memory → SProp 𝓤) (run : Routine → Fun 𝓤) where
-  curlewreel-headend-clock-walks : (C : Calls 𝓤 H) (Λ : Loops 𝓤 H) → FmC 𝓤 H (W .laws) C → Triple 𝓤 (C #headend·calls·clock) (Clockᶜ 𝓤 H A mem run) → Triple 𝓤 (C #firmware·headend-calls·headend-call) (HeadendCallᶜ 𝓤 H A mem run) → Walks 𝓤 H A curlewreel-headend-clock₀.ended stayed (WpFn 𝓤 H C Λ code.function) (curlewreel-headend-clock₀.clauses 𝓤 H A mem run)
+  curlewreel-headend-clock-walks : (C : Calls 𝓤 H) (Λ : Loops 𝓤 H) → FmC 𝓤 H (W .laws) C → Triple 𝓤 (C #headend·calls·clock) (Clockᶜ 𝓤 H A mem run) → Triple 𝓤 (C #for-c·headend-values·headend-call) (HeadendCallᶜ 𝓤 H A mem run) → Walks 𝓤 H A curlewreel-headend-clock₀.ended stayed (WpFn 𝓤 H C Λ code.function) (curlewreel-headend-clock₀.clauses 𝓤 H A mem run)
   curlewreel-headend-clock-walks C Λ fm known-clock known-headend-call = walked 𝓤 H A curlewreel-headend-clock₀.ended stayed (curlewreel-headend-clock₀.clauses 𝓤 H A mem run) (WpFn 𝓤 H C Λ code.function)
       (λ κs. (LL.vals HeadEnd₁.the-type HeadEnd₁′.the-laws, (slice-vals, (uint-vals w64, (slice-vals, tt))))) (λ κs. (LL.tells HeadEnd₁.the-type HeadEnd₁′.the-laws, (mut-slice-tells (named 0) (κs .0) Assoc₁.the-row, (uint-tells w64, (shr-slice-tells (named 1) (κs .1 .0) u8, tt)))))
       (λ κs qs bounds a g are. via 𝓤 _ (fst∗ 𝓤 _ (emp 𝓤))
       (walk 𝓤 H A W mem run (κs .0) (κs .1 .0) (qs .0) (qs .1 .0) (a .0) (a .1 .0) (a .1 .1 .0) (a .1 .1 .1 .0) (are .0) (are .1 .0 .0 .1) (are .1 .1 .0 .1) (are .1 .1 .1 .0 .0 .1) C Λ fm known-clock known-headend-call))
 
-curlewreel-headend-clock-meets : {M : Type 1} (𝓤 : URA M) (H : Heap 𝓤) (A : Atoms 𝓤) → Given 𝓤 H A → (mem : Memory → SProp 𝓤) (run : Routine → Fun 𝓤) (𝓣 : Tables 𝓤 H) → Triple 𝓤 (𝓣 .C #headend·calls·clock) (Clockᶜ 𝓤 H A mem run) → Triple 𝓤 (𝓣 .C #firmware·headend-calls·headend-call) (HeadendCallᶜ 𝓤 H A mem run)
+curlewreel-headend-clock-meets : {M : Type 1} (𝓤 : URA M) (H : Heap 𝓤) (A : Atoms 𝓤) → Given 𝓤 H A → (mem : Memory → SProp 𝓤) (run : Routine → Fun 𝓤) (𝓣 : Tables 𝓤 H) → Triple 𝓤 (𝓣 .C #headend·calls·clock) (Clockᶜ 𝓤 H A mem run) → Triple 𝓤 (𝓣 .C #for-c·headend-values·headend-call) (HeadendCallᶜ 𝓤 H A mem run)
     → Meets 𝓤 H A curlewreel-headend-clock₀.signature (WpFn 𝓤 H (𝓣 .C) (𝓣 .Λ) code.function) (curlewreel-headend-clock₀.spec 𝓤 H A mem run)
 curlewreel-headend-clock-meets 𝓤 H A W mem run 𝓣 known-clock known-headend-call =
     walk-meets 𝓤 H A curlewreel-headend-clock₀.ended stayed W (goes-none 𝓤 H A W 2 (λ _. HeadEnd₁.the-row) yes (λ κs x f. refl), (goes-gave-slice 𝓤 H A W 2 0 tt (plain (λ _. Assoc₁.the-row)), (goes-none 𝓤 H A W 2 (λ _. u64) yes (λ κs x f. refl), (goes-none-slice 𝓤 H A W 2 (1 ∷ []) tt (plain (λ _. u8)) yes, tt)))) (curlewreel-headend-clock₀.clauses 𝓤 H A mem run)
@@ -229,4 +229,4 @@ curlewreel-headend-clock-spec 𝓤 H 𝓜 𝓖 𝓡 =
     (tables 𝓤 H 𝓜 𝓡 code.env .C) (tables 𝓤 H 𝓜 𝓡 code.env .Λ) #here code.function (code.unfolded 𝓤 H 𝓜 𝓡)
     (curlewreel-headend-clock-meets 𝓤 H (𝓖 .A) (givenOf 𝓤 H 𝓜 𝓖) (𝓜 .mem) (𝓡 .run) (tablesOf 𝓤 H 𝓜 (tables 𝓤 H 𝓜 𝓡 code.env))
     (cited 𝓤 H (Clockᶜ 𝓤 H (𝓖 .A) (𝓜 .mem) (𝓡 .run)) 𝓜 𝓡 code.env #headend·calls·clock clock-def.routine code.calls-headend·calls·clock (clock-thm.met 𝓤 H 𝓜 𝓖 𝓡))
-    (cited 𝓤 H (HeadendCallᶜ 𝓤 H (𝓖 .A) (𝓜 .mem) (𝓡 .run)) 𝓜 𝓡 code.env #firmware·headend-calls·headend-call headend-call-def.routine code.calls-firmware·headend-calls·headend-call (headend-call-thm.met 𝓤 H 𝓜 𝓖 𝓡)))
+    (cited 𝓤 H (HeadendCallᶜ 𝓤 H (𝓖 .A) (𝓜 .mem) (𝓡 .run)) 𝓜 𝓡 code.env #for-c·headend-values·headend-call headend-call-def.routine code.calls-for-c·headend-values·headend-call (headend-call-thm.met 𝓤 H 𝓜 𝓖 𝓡)))

@@ -1,6 +1,6 @@
 -- `firmware::headend_calls::curlewreel_headend_new` meets its contract.
 use borrow.Author.Needs.{needs}
-use Rattle.firmware.proofs.HeadEndCallLaws.{head-handed}
+use Rattle.for_c.proofs.HeadEndCallLaws.{head-handed}
 use Rattle.firmware.proofs.headend_calls.curlewreel_headend_new.Statement.{statement}
 use Rattle.firmware.proofs.headend_calls.curlewreel_headend_new.Tie as tie
 

@@ -38,9 +38,9 @@ use denote.Triple.Spec.{Meets, tripleOf}
 use denote.Triple.Table.{entered, cited}
 use denote.Triple.Walked.{says, Stays, stay-none-slice, stay-none, gave-slice, walkOf, goes-none-slice, goes-none, goes-gave-slice, Walks, ends-at, walked, walk-meets}
 use denote.Exit.{yes}
-use Rattle.firmware.specs.declared.headend_calls.HeadEndOpening.{HeadEndOpening}
-use Rattle.firmware.proofs.headend_calls.HeadEndOpening as HeadEndOpening₁
-use Rattle.firmware.proofs.headend_calls.HeadEndOpening.Laws as HeadEndOpening₁′
+use Rattle.for_c.specs.declared.headend_values.HeadEndOpening.{HeadEndOpening}
+use Rattle.for_c.proofs.headend_values.HeadEndOpening as HeadEndOpening₁
+use Rattle.for_c.proofs.headend_values.HeadEndOpening.Laws as HeadEndOpening₁′
 use Rattle.headend_state.specs.declared.state.HeadEnd.{HeadEnd}
 use Rattle.headend_state.proofs.state.HeadEnd as HeadEnd₁
 use Rattle.headend_state.proofs.state.HeadEnd.Laws as HeadEnd₁′
@@ -52,22 +52,22 @@ use Rattle.keys.proofs.numbers.TekNumber.Laws as TekNumber₁′
 use Rattle.headend_frames.specs.declared.frames.OpenedCall.{OpenedCall}
 use Rattle.headend_frames.proofs.frames.OpenedCall as OpenedCall₁
 use Rattle.headend_frames.proofs.frames.OpenedCall.Laws as OpenedCall₁′
-use Rattle.firmware.proofs.headend_calls.tek_number as tek-number′
-use Rattle.firmware.proofs.headend_calls.tek_number.Symbol as tek-number-def
-use Rattle.firmware.proofs.headend_calls.tek_number.Symbol.{name as #firmware·headend-calls·tek-number}
-use Rattle.firmware.proofs.headend_calls.tek_number.Met as tek-number-thm
+use Rattle.for_c.proofs.headend_values.tek_number as tek-number′
+use Rattle.for_c.proofs.headend_values.tek_number.Symbol as tek-number-def
+use Rattle.for_c.proofs.headend_values.tek_number.Symbol.{name as #for-c·headend-values·tek-number}
+use Rattle.for_c.proofs.headend_values.tek_number.Met as tek-number-thm
 use Rattle.headend.proofs.frames.open as open′
 use Rattle.headend.proofs.frames.open.Symbol as open-def
 use Rattle.headend.proofs.frames.open.Symbol.{name as #headend·frames·open}
 use Rattle.headend.proofs.frames.open.Met as open-thm
-use Rattle.firmware.proofs.headend_calls.headend_opening as headend-opening′
-use Rattle.firmware.proofs.headend_calls.headend_opening.Symbol as headend-opening-def
-use Rattle.firmware.proofs.headend_calls.headend_opening.Symbol.{name as #firmware·headend-calls·headend-opening}
-use Rattle.firmware.proofs.headend_calls.headend_opening.Met as headend-opening-thm
+use Rattle.for_c.proofs.headend_values.headend_opening as headend-opening′
+use Rattle.for_c.proofs.headend_values.headend_opening.Symbol as headend-opening-def
+use Rattle.for_c.proofs.headend_values.headend_opening.Symbol.{name as #for-c·headend-values·headend-opening}
+use Rattle.for_c.proofs.headend_values.headend_opening.Met as headend-opening-thm
 use Rattle.keys.specs.Octets.{overlay}
-use Rattle.headend.specs.FrameCalls.{openOf}
+use Rattle.headend_rules.specs.FrameCalls.{openOf}
 use Rattle.headend_frames.specs.FrameCalled.{openCalled}
-use Rattle.firmware.specs.HeadEndCalls.{headEndOpening}
+use Rattle.for_c.specs.HeadEndCalls.{headEndOpening}
 use Rattle.firmware.proofs.headend_calls.curlewreel_headend_open.Key.{name as #here}
 use Rattle.firmware.proofs.headend_calls.curlewreel_headend_open as curlewreel-headend-open₀
 use Rattle.firmware.proofs.headend_calls.curlewreel_headend_open.Statement as stated
@@ -182,7 +182,7 @@ module _ {M : Type 1} (𝓤 : URA M) (H : Heap 𝓤) (A : Atoms 𝓤) (W : Given
     said-headend-opening-last : (r : HeadEndOpening) → ent 𝓤 (ensured 𝓤 H A headend-opening′.ended (headend-opening′.clauses 𝓤 H A mem run) tt headend-opening-last-args tt r) (fact 𝓤 (r ≡ headEndOpening got))
     said-headend-opening-last r = exE 𝓤 _ (λ ws. snd∗ 𝓤 (sem 𝓤 H A (lasts headend-opening′.ended tt headend-opening-last-args ws)) (fact 𝓤 (r ≡ headEndOpening got)))
 
-  module _ (C : Calls 𝓤 H) (Λ : Loops 𝓤 H) (fm : FmC 𝓤 H (W .laws) C) (known-tek-number : Triple 𝓤 (C #firmware·headend-calls·tek-number) (TekNumberᶜ 𝓤 H A mem run)) (known-open : Triple 𝓤 (C #headend·frames·open) (Openᶜ 𝓤 H A mem run)) (known-headend-opening : Triple 𝓤 (C #firmware·headend-calls·headend-opening) (HeadendOpeningᶜ 𝓤 H A mem run)) (l₀ l₁ l₂ l₃ l₄ l₅ l₆ l₇ l₈ l₉ l₁₀ l₁₁ l₁₂ l₁₃ l₁₄ l₁₅ l₁₆ l₁₇ : ℕ) where
+  module _ (C : Calls 𝓤 H) (Λ : Loops 𝓤 H) (fm : FmC 𝓤 H (W .laws) C) (known-tek-number : Triple 𝓤 (C #for-c·headend-values·tek-number) (TekNumberᶜ 𝓤 H A mem run)) (known-open : Triple 𝓤 (C #headend·frames·open) (Openᶜ 𝓤 H A mem run)) (known-headend-opening : Triple 𝓤 (C #for-c·headend-values·headend-opening) (HeadendOpeningᶜ 𝓤 H A mem run)) (l₀ l₁ l₂ l₃ l₄ l₅ l₆ l₇ l₈ l₉ l₁₀ l₁₁ l₁₂ l₁₃ l₁₄ l₁₅ l₁₆ l₁₇ : ℕ) where
     abbrev En : Env 𝓤 H
     En = (HeadEndOpening₁′.mir, l₀) ∷ (HeadEnd₁′.mir, l₁) ∷ ((sliceTy (tyRef (named 0) imm (pointee (Assoc₁.the-row .written)))), l₂) ∷ ((tyInt w8), l₃) ∷ ((tyInt w64), l₄) ∷ ((tyInt w16), l₅) ∷ ((tyInt w8), l₆) ∷ ((sliceTy (tyRef (named 1) mut (tyInt w8))), l₇) ∷ ((sliceTy (tyRef (named 2) mut (tyInt w8))), l₈) ∷ ((sliceTy (tyRef (named 3) mut (tyInt w8))), l₉) ∷ (TekNumber₁′.mir, l₁₀) ∷ (OpenedCall₁′.mir, l₁₁) ∷ ((tyRef erased mut (tyInt w8)), l₁₂) ∷ ((sliceTy (tyRef erased mut (tyInt w8))), l₁₃) ∷ ((tyRef erased mut (tyInt w8)), l₁₄) ∷ ((sliceTy (tyRef erased mut (tyInt w8))), l₁₅) ∷ ((tyRef erased mut (tyInt w8)), l₁₆) ∷ ((sliceTy (tyRef erased mut (tyInt w8))), l₁₇) ∷ []
 
@@ -310,7 +310,7 @@ module _ {M : Type 1} (𝓤 : URA M) (H : Heap 𝓤) (A : Atoms 𝓤) (W : Given
         land ! (from ! (stop !)) (init ! 22 refl (LL.lawful TekNumber₁.the-type TekNumber₁′.the-laws 𝓤 H A W .typed tekno _ tekno-is .0)) $
         stage-2 tekno tekno-u tekno-is (tekno-said)))))
 
-  module _ (C : Calls 𝓤 H) (Λ : Loops 𝓤 H) (fm : FmC 𝓤 H (W .laws) C) (known-tek-number : Triple 𝓤 (C #firmware·headend-calls·tek-number) (TekNumberᶜ 𝓤 H A mem run)) (known-open : Triple 𝓤 (C #headend·frames·open) (Openᶜ 𝓤 H A mem run)) (known-headend-opening : Triple 𝓤 (C #firmware·headend-calls·headend-opening) (HeadendOpeningᶜ 𝓤 H A mem run)) where
+  module _ (C : Calls 𝓤 H) (Λ : Loops 𝓤 H) (fm : FmC 𝓤 H (W .laws) C) (known-tek-number : Triple 𝓤 (C #for-c·headend-values·tek-number) (TekNumberᶜ 𝓤 H A mem run)) (known-open : Triple 𝓤 (C #headend·frames·open) (Openᶜ 𝓤 H A mem run)) (known-headend-opening : Triple 𝓤 (C #for-c·headend-values·headend-opening) (HeadendOpeningᶜ 𝓤 H A mem run)) where
     walk : ent 𝓤 (onEntry 𝓤 H A curlewreel-headend-open₀.signature (κ, (μ, (κ₃, (κ₄, tt)))) (q, (p, (q₃, (q₄, tt)))) a vals) (WpFn 𝓤 H C Λ code.function ((LL.val HeadEnd₁.the-type HeadEnd₁′.the-laws h) ∷ records-val ∷ (vint w8 direction) ∷ (vint w64 address) ∷ (vint w16 said) ∷ (vint w8 number) ∷ tek-val ∷ vector-val ∷ invalid-val ∷ []) Post)
     walk =
         qed W ((‵ (flft κ q) ⊛ (‵ (flft μ p) ⊛ (‵ (flft κ₃ q₃) ⊛ (‵ (flft κ₄ q₄) ⊛ ‵ ftrue)))) ∷ ‵ (owns (HeadEnd₁.the-row ∷ ShrSlice (named 0) κ Assoc₁.the-row ∷ u8 ∷ u64 ∷ u16 ∷ u8 ∷ MutSlice (named 1) μ u8 ∷ MutSlice (named 2) κ₃ u8 ∷ MutSlice (named 3) κ₄ u8 ∷ []) a vals) ∷ []) ∵ enter ! C Λ code.function ((LL.val HeadEnd₁.the-type HeadEnd₁′.the-laws h) ∷ records-val ∷ (vint w8 direction) ∷ (vint w64 address) ∷ (vint w16 said) ∷ (vint w8 number) ∷ tek-val ∷ vector-val ∷ invalid-val ∷ []) _ $
@@ -321,13 +321,13 @@ module _ {M : Type 1} (𝓤 : URA M) (H : Heap 𝓤) (A : Atoms 𝓤) (W : Given
         stage-1 C Λ fm known-tek-number known-open known-headend-opening l₀ l₁ l₂ l₃ l₄ l₅ l₆ l₇ l₈ l₉ l₁₀ l₁₁ l₁₂ l₁₃ l₁₄ l₁₅ l₁₆ l₁₇))))))))))))))))))
 
 module _ {M : Type 1} (𝓤 : URA M) (H : Heap 𝓤) (A : Atoms 𝓤) (W : Given 𝓤 H A) (mem : Memory → SProp 𝓤) (run : Routine → Fun 𝓤) where
-  curlewreel-headend-open-walks : (C : Calls 𝓤 H) (Λ : Loops 𝓤 H) → FmC 𝓤 H (W .laws) C → Triple 𝓤 (C #firmware·headend-calls·tek-number) (TekNumberᶜ 𝓤 H A mem run) → Triple 𝓤 (C #headend·frames·open) (Openᶜ 𝓤 H A mem run) → Triple 𝓤 (C #firmware·headend-calls·headend-opening) (HeadendOpeningᶜ 𝓤 H A mem run) → Walks 𝓤 H A curlewreel-headend-open₀.ended stayed (WpFn 𝓤 H C Λ code.function) (curlewreel-headend-open₀.clauses 𝓤 H A mem run)
+  curlewreel-headend-open-walks : (C : Calls 𝓤 H) (Λ : Loops 𝓤 H) → FmC 𝓤 H (W .laws) C → Triple 𝓤 (C #for-c·headend-values·tek-number) (TekNumberᶜ 𝓤 H A mem run) → Triple 𝓤 (C #headend·frames·open) (Openᶜ 𝓤 H A mem run) → Triple 𝓤 (C #for-c·headend-values·headend-opening) (HeadendOpeningᶜ 𝓤 H A mem run) → Walks 𝓤 H A curlewreel-headend-open₀.ended stayed (WpFn 𝓤 H C Λ code.function) (curlewreel-headend-open₀.clauses 𝓤 H A mem run)
   curlewreel-headend-open-walks C Λ fm known-tek-number known-open known-headend-opening = walked 𝓤 H A curlewreel-headend-open₀.ended stayed (curlewreel-headend-open₀.clauses 𝓤 H A mem run) (WpFn 𝓤 H C Λ code.function)
       (λ κs. (LL.vals HeadEnd₁.the-type HeadEnd₁′.the-laws, (slice-vals, (uint-vals w8, (uint-vals w64, (uint-vals w16, (uint-vals w8, (slice-vals, (slice-vals, (slice-vals, tt)))))))))) (λ κs. (LL.tells HeadEnd₁.the-type HeadEnd₁′.the-laws, (shr-slice-tells (named 0) (κs .0) Assoc₁.the-row, (uint-tells w8, (uint-tells w64, (uint-tells w16, (uint-tells w8, (mut-slice-tells (named 1) (κs .1 .0) u8, (mut-slice-tells (named 2) (κs .1 .1 .0) u8, (mut-slice-tells (named 3) (κs .1 .1 .1 .0) u8, tt))))))))))
       (λ κs qs bounds a g are. via 𝓤 _ (fst∗ 𝓤 _ (emp 𝓤))
       (walk 𝓤 H A W mem run (κs .0) (κs .1 .0) (κs .1 .1 .0) (κs .1 .1 .1 .0) (qs .0) (qs .1 .0) (qs .1 .1 .0) (qs .1 .1 .1 .0) (a .0) (a .1 .0) (a .1 .1 .0) (a .1 .1 .1 .0) (a .1 .1 .1 .1 .0) (a .1 .1 .1 .1 .1 .0) (a .1 .1 .1 .1 .1 .1 .0) (a .1 .1 .1 .1 .1 .1 .1 .0) (a .1 .1 .1 .1 .1 .1 .1 .1 .0) (are .0) (are .1 .0 .0 .1) (are .1 .1 .0 .1) (are .1 .1 .1 .0 .1) (are .1 .1 .1 .1 .0 .1) (are .1 .1 .1 .1 .1 .0 .1) (are .1 .1 .1 .1 .1 .1 .0 .0 .1) (are .1 .1 .1 .1 .1 .1 .1 .0 .0 .1) (are .1 .1 .1 .1 .1 .1 .1 .1 .0 .0 .1) C Λ fm known-tek-number known-open known-headend-opening))
 
-curlewreel-headend-open-meets : {M : Type 1} (𝓤 : URA M) (H : Heap 𝓤) (A : Atoms 𝓤) → Given 𝓤 H A → (mem : Memory → SProp 𝓤) (run : Routine → Fun 𝓤) (𝓣 : Tables 𝓤 H) → Triple 𝓤 (𝓣 .C #firmware·headend-calls·tek-number) (TekNumberᶜ 𝓤 H A mem run) → Triple 𝓤 (𝓣 .C #headend·frames·open) (Openᶜ 𝓤 H A mem run) → Triple 𝓤 (𝓣 .C #firmware·headend-calls·headend-opening) (HeadendOpeningᶜ 𝓤 H A mem run)
+curlewreel-headend-open-meets : {M : Type 1} (𝓤 : URA M) (H : Heap 𝓤) (A : Atoms 𝓤) → Given 𝓤 H A → (mem : Memory → SProp 𝓤) (run : Routine → Fun 𝓤) (𝓣 : Tables 𝓤 H) → Triple 𝓤 (𝓣 .C #for-c·headend-values·tek-number) (TekNumberᶜ 𝓤 H A mem run) → Triple 𝓤 (𝓣 .C #headend·frames·open) (Openᶜ 𝓤 H A mem run) → Triple 𝓤 (𝓣 .C #for-c·headend-values·headend-opening) (HeadendOpeningᶜ 𝓤 H A mem run)
     → Meets 𝓤 H A curlewreel-headend-open₀.signature (WpFn 𝓤 H (𝓣 .C) (𝓣 .Λ) code.function) (curlewreel-headend-open₀.spec 𝓤 H A mem run)
 curlewreel-headend-open-meets 𝓤 H A W mem run 𝓣 known-tek-number known-open known-headend-opening =
     walk-meets 𝓤 H A curlewreel-headend-open₀.ended stayed W (goes-none 𝓤 H A W 4 (λ _. HeadEnd₁.the-row) yes (λ κs x f. refl), (goes-none-slice 𝓤 H A W 4 (0 ∷ []) tt (plain (λ _. Assoc₁.the-row)) yes, (goes-none 𝓤 H A W 4 (λ _. u8) yes (λ κs x f. refl), (goes-none 𝓤 H A W 4 (λ _. u64) yes (λ κs x f. refl), (goes-none 𝓤 H A W 4 (λ _. u16) yes (λ κs x f. refl), (goes-none 𝓤 H A W 4 (λ _. u8) yes (λ κs x f. refl), (goes-gave-slice 𝓤 H A W 4 1 tt (plain (λ _. u8)), (goes-gave-slice 𝓤 H A W 4 2 tt (plain (λ _. u8)), (goes-gave-slice 𝓤 H A W 4 3 tt (plain (λ _. u8)), tt))))))))) (curlewreel-headend-open₀.clauses 𝓤 H A mem run)
@@ -339,6 +339,6 @@ curlewreel-headend-open-spec 𝓤 H 𝓜 𝓖 𝓡 =
     entered 𝓤 H (tripleOf 𝓤 H (𝓖 .A) curlewreel-headend-open₀.signature (curlewreel-headend-open₀.spec 𝓤 H (𝓖 .A) (𝓜 .mem) (𝓡 .run)))
     (tables 𝓤 H 𝓜 𝓡 code.env .C) (tables 𝓤 H 𝓜 𝓡 code.env .Λ) #here code.function (code.unfolded 𝓤 H 𝓜 𝓡)
     (curlewreel-headend-open-meets 𝓤 H (𝓖 .A) (givenOf 𝓤 H 𝓜 𝓖) (𝓜 .mem) (𝓡 .run) (tablesOf 𝓤 H 𝓜 (tables 𝓤 H 𝓜 𝓡 code.env))
-    (cited 𝓤 H (TekNumberᶜ 𝓤 H (𝓖 .A) (𝓜 .mem) (𝓡 .run)) 𝓜 𝓡 code.env #firmware·headend-calls·tek-number tek-number-def.routine code.calls-firmware·headend-calls·tek-number (tek-number-thm.met 𝓤 H 𝓜 𝓖 𝓡))
+    (cited 𝓤 H (TekNumberᶜ 𝓤 H (𝓖 .A) (𝓜 .mem) (𝓡 .run)) 𝓜 𝓡 code.env #for-c·headend-values·tek-number tek-number-def.routine code.calls-for-c·headend-values·tek-number (tek-number-thm.met 𝓤 H 𝓜 𝓖 𝓡))
     (cited 𝓤 H (Openᶜ 𝓤 H (𝓖 .A) (𝓜 .mem) (𝓡 .run)) 𝓜 𝓡 code.env #headend·frames·open open-def.routine code.calls-headend·frames·open (open-thm.met 𝓤 H 𝓜 𝓖 𝓡))
-    (cited 𝓤 H (HeadendOpeningᶜ 𝓤 H (𝓖 .A) (𝓜 .mem) (𝓡 .run)) 𝓜 𝓡 code.env #firmware·headend-calls·headend-opening headend-opening-def.routine code.calls-firmware·headend-calls·headend-opening (headend-opening-thm.met 𝓤 H 𝓜 𝓖 𝓡)))
+    (cited 𝓤 H (HeadendOpeningᶜ 𝓤 H (𝓖 .A) (𝓜 .mem) (𝓡 .run)) 𝓜 𝓡 code.env #for-c·headend-values·headend-opening headend-opening-def.routine code.calls-for-c·headend-values·headend-opening (headend-opening-thm.met 𝓤 H 𝓜 𝓖 𝓡)))

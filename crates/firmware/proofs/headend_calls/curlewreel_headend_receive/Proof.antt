@@ -40,9 +40,9 @@ use denote.Triple.Spec.{Meets, tripleOf}
 use denote.Triple.Table.{entered, cited}
 use denote.Triple.Walked.{says, Stays, stay-none-slice, stay-none, gave-slice, walkOf, goes-none-slice, goes-none, goes-gave-slice, Walks, ends-at, walked, walk-meets}
 use denote.Exit.{yes}
-use Rattle.firmware.specs.declared.headend_calls.HeadEndCall.{HeadEndCall}
-use Rattle.firmware.proofs.headend_calls.HeadEndCall as HeadEndCall₁
-use Rattle.firmware.proofs.headend_calls.HeadEndCall.Laws as HeadEndCall₁′
+use Rattle.for_c.specs.declared.headend_values.HeadEndCall.{HeadEndCall}
+use Rattle.for_c.proofs.headend_values.HeadEndCall as HeadEndCall₁
+use Rattle.for_c.proofs.headend_values.HeadEndCall.Laws as HeadEndCall₁′
 use Rattle.headend_state.specs.declared.state.HeadEnd.{HeadEnd}
 use Rattle.headend_state.proofs.state.HeadEnd as HeadEnd₁
 use Rattle.headend_state.proofs.state.HeadEnd.Laws as HeadEnd₁′
@@ -51,27 +51,27 @@ use Rattle.association.proofs.record.Assoc as Assoc₁
 use Rattle.headend_state.specs.declared.state.Called.{Called}
 use Rattle.headend_state.proofs.state.Called as Called₁
 use Rattle.headend_state.proofs.state.Called.Laws as Called₁′
-use Rattle.firmware.proofs.headend_calls.asked as asked′
-use Rattle.firmware.proofs.headend_calls.asked.Symbol as asked-def
-use Rattle.firmware.proofs.headend_calls.asked.Symbol.{name as #firmware·headend-calls·asked}
-use Rattle.firmware.proofs.headend_calls.asked.Met as asked-thm
-use Rattle.firmware.proofs.headend_calls.is_one as is-one′
-use Rattle.firmware.proofs.headend_calls.is_one.Symbol as is-one-def
-use Rattle.firmware.proofs.headend_calls.is_one.Symbol.{name as #firmware·headend-calls·is-one}
-use Rattle.firmware.proofs.headend_calls.is_one.Met as is-one-thm
+use Rattle.for_c.proofs.headend_values.asked as asked′
+use Rattle.for_c.proofs.headend_values.asked.Symbol as asked-def
+use Rattle.for_c.proofs.headend_values.asked.Symbol.{name as #for-c·headend-values·asked}
+use Rattle.for_c.proofs.headend_values.asked.Met as asked-thm
+use Rattle.for_c.proofs.headend_values.is_one as is-one′
+use Rattle.for_c.proofs.headend_values.is_one.Symbol as is-one-def
+use Rattle.for_c.proofs.headend_values.is_one.Symbol.{name as #for-c·headend-values·is-one}
+use Rattle.for_c.proofs.headend_values.is_one.Met as is-one-thm
 use Rattle.headend.proofs.calls.receive as receive′
 use Rattle.headend.proofs.calls.receive.Symbol as receive-def
 use Rattle.headend.proofs.calls.receive.Symbol.{name as #headend·calls·receive}
 use Rattle.headend.proofs.calls.receive.Met as receive-thm
-use Rattle.firmware.proofs.headend_calls.received as received′
-use Rattle.firmware.proofs.headend_calls.received.Symbol as received-def
-use Rattle.firmware.proofs.headend_calls.received.Symbol.{name as #firmware·headend-calls·received}
-use Rattle.firmware.proofs.headend_calls.received.Met as received-thm
+use Rattle.for_c.proofs.headend_values.received as received′
+use Rattle.for_c.proofs.headend_values.received.Symbol as received-def
+use Rattle.for_c.proofs.headend_values.received.Symbol.{name as #for-c·headend-values·received}
+use Rattle.for_c.proofs.headend_values.received.Met as received-thm
 use Rattle.keys.specs.Octets.{overlay}
 use lib.Dec.{eqb}
-use Rattle.headend.specs.Calls.{receiveOf, receiveOctets}
-use Rattle.firmware.specs.HeadEndCalls.{askedOf, receivedOf, receiveCall, receiveWritten}
-use Rattle.firmware.proofs.HeadEndCallLaws.{asked-called, asked-written}
+use Rattle.headend_rules.specs.Calls.{receiveOf, receiveOctets}
+use Rattle.for_c.specs.HeadEndCalls.{askedOf, receivedOf, receiveCall, receiveWritten}
+use Rattle.for_c.proofs.HeadEndCallLaws.{asked-called, asked-written}
 use Rattle.firmware.proofs.headend_calls.curlewreel_headend_receive.Key.{name as #here}
 use Rattle.firmware.proofs.headend_calls.curlewreel_headend_receive as curlewreel-headend-receive₀
 use Rattle.firmware.proofs.headend_calls.curlewreel_headend_receive.Statement as stated
@@ -205,7 +205,7 @@ module _ {M : Type 1} (𝓤 : URA M) (H : Heap 𝓤) (A : Atoms 𝓤) (W : Given
     said-received-last : (r : HeadEndCall) → ent 𝓤 (ensured 𝓤 H A received′.ended (received′.clauses 𝓤 H A mem run) tt received-last-args tt r) (fact 𝓤 (r ≡ receivedOf h digest got))
     said-received-last r = exE 𝓤 _ (λ ws. snd∗ 𝓤 (sem 𝓤 H A (lasts received′.ended tt received-last-args ws)) (fact 𝓤 (r ≡ receivedOf h digest got)))
 
-  module _ (C : Calls 𝓤 H) (Λ : Loops 𝓤 H) (fm : FmC 𝓤 H (W .laws) C) (known-asked : Triple 𝓤 (C #firmware·headend-calls·asked) (Askedᶜ 𝓤 H A mem run)) (known-is-one : Triple 𝓤 (C #firmware·headend-calls·is-one) (IsOneᶜ 𝓤 H A mem run)) (known-receive : Triple 𝓤 (C #headend·calls·receive) (Receiveᶜ 𝓤 H A mem run)) (known-received : Triple 𝓤 (C #firmware·headend-calls·received) (Receivedᶜ 𝓤 H A mem run)) (l₀ l₁ l₂ l₃ l₄ l₅ l₆ l₇ l₈ l₉ l₁₀ l₁₁ l₁₂ : ℕ) where
+  module _ (C : Calls 𝓤 H) (Λ : Loops 𝓤 H) (fm : FmC 𝓤 H (W .laws) C) (known-asked : Triple 𝓤 (C #for-c·headend-values·asked) (Askedᶜ 𝓤 H A mem run)) (known-is-one : Triple 𝓤 (C #for-c·headend-values·is-one) (IsOneᶜ 𝓤 H A mem run)) (known-receive : Triple 𝓤 (C #headend·calls·receive) (Receiveᶜ 𝓤 H A mem run)) (known-received : Triple 𝓤 (C #for-c·headend-values·received) (Receivedᶜ 𝓤 H A mem run)) (l₀ l₁ l₂ l₃ l₄ l₅ l₆ l₇ l₈ l₉ l₁₀ l₁₁ l₁₂ : ℕ) where
     abbrev En : Env 𝓤 H
     En = (HeadEndCall₁′.mir, l₀) ∷ (HeadEnd₁′.mir, l₁) ∷ ((sliceTy (tyRef (named 0) imm (pointee (Assoc₁.the-row .written)))), l₂) ∷ ((tyInt w64), l₃) ∷ ((sliceTy (tyRef (named 1) imm (tyInt w8))), l₄) ∷ ((tyInt w8), l₅) ∷ ((sliceTy (tyRef (named 2) imm (tyInt w8))), l₆) ∷ ((sliceTy (tyRef (named 3) mut (tyInt w8))), l₇) ∷ (HeadEnd₁′.mir, l₈) ∷ (tyBool, l₉) ∷ (Called₁′.mir, l₁₀) ∷ ((tyRef erased mut (tyInt w8)), l₁₁) ∷ ((sliceTy (tyRef erased mut (tyInt w8))), l₁₂) ∷ []
 
@@ -329,7 +329,7 @@ module _ {M : Type 1} (𝓤 : URA M) (H : Heap 𝓤) (A : Atoms 𝓤) (W : Given
         land ! (from ! (stop !)) (init ! 16 refl (LL.lawful HeadEnd₁.the-type HeadEnd₁′.the-laws 𝓤 H A W .typed quizzed _ quizzed-is .0)) $
         stage-2 quizzed quizzed-u quizzed-is (quizzed-said)))))
 
-  module _ (C : Calls 𝓤 H) (Λ : Loops 𝓤 H) (fm : FmC 𝓤 H (W .laws) C) (known-asked : Triple 𝓤 (C #firmware·headend-calls·asked) (Askedᶜ 𝓤 H A mem run)) (known-is-one : Triple 𝓤 (C #firmware·headend-calls·is-one) (IsOneᶜ 𝓤 H A mem run)) (known-receive : Triple 𝓤 (C #headend·calls·receive) (Receiveᶜ 𝓤 H A mem run)) (known-received : Triple 𝓤 (C #firmware·headend-calls·received) (Receivedᶜ 𝓤 H A mem run)) where
+  module _ (C : Calls 𝓤 H) (Λ : Loops 𝓤 H) (fm : FmC 𝓤 H (W .laws) C) (known-asked : Triple 𝓤 (C #for-c·headend-values·asked) (Askedᶜ 𝓤 H A mem run)) (known-is-one : Triple 𝓤 (C #for-c·headend-values·is-one) (IsOneᶜ 𝓤 H A mem run)) (known-receive : Triple 𝓤 (C #headend·calls·receive) (Receiveᶜ 𝓤 H A mem run)) (known-received : Triple 𝓤 (C #for-c·headend-values·received) (Receivedᶜ 𝓤 H A mem run)) where
     walk : ent 𝓤 (onEntry 𝓤 H A curlewreel-headend-receive₀.signature (κ, (μ, (κ₃, (κ₄, tt)))) (q, (p, (q₃, (q₄, tt)))) a vals) (WpFn 𝓤 H C Λ code.function ((LL.val HeadEnd₁.the-type HeadEnd₁′.the-laws h) ∷ records-val ∷ (vint w64 address) ∷ message-val ∷ (vint w8 digest) ∷ key-val ∷ out-val ∷ []) Post)
     walk =
         qed W ((‵ (flft κ q) ⊛ (‵ (flft μ p) ⊛ (‵ (flft κ₃ q₃) ⊛ (‵ (flft κ₄ q₄) ⊛ ‵ ftrue)))) ∷ ‵ (owns (HeadEnd₁.the-row ∷ ShrSlice (named 0) κ Assoc₁.the-row ∷ u64 ∷ ShrSlice (named 1) μ u8 ∷ u8 ∷ ShrSlice (named 2) κ₃ u8 ∷ MutSlice (named 3) κ₄ u8 ∷ []) a vals) ∷ []) ∵ enter ! C Λ code.function ((LL.val HeadEnd₁.the-type HeadEnd₁′.the-laws h) ∷ records-val ∷ (vint w64 address) ∷ message-val ∷ (vint w8 digest) ∷ key-val ∷ out-val ∷ []) _ $
@@ -340,13 +340,13 @@ module _ {M : Type 1} (𝓤 : URA M) (H : Heap 𝓤) (A : Atoms 𝓤) (W : Given
         stage-1 C Λ fm known-asked known-is-one known-receive known-received l₀ l₁ l₂ l₃ l₄ l₅ l₆ l₇ l₈ l₉ l₁₀ l₁₁ l₁₂)))))))))))))
 
 module _ {M : Type 1} (𝓤 : URA M) (H : Heap 𝓤) (A : Atoms 𝓤) (W : Given 𝓤 H A) (mem : Memory → SProp 𝓤) (run : Routine → Fun 𝓤) where
-  curlewreel-headend-receive-walks : (C : Calls 𝓤 H) (Λ : Loops 𝓤 H) → FmC 𝓤 H (W .laws) C → Triple 𝓤 (C #firmware·headend-calls·asked) (Askedᶜ 𝓤 H A mem run) → Triple 𝓤 (C #firmware·headend-calls·is-one) (IsOneᶜ 𝓤 H A mem run) → Triple 𝓤 (C #headend·calls·receive) (Receiveᶜ 𝓤 H A mem run) → Triple 𝓤 (C #firmware·headend-calls·received) (Receivedᶜ 𝓤 H A mem run) → Walks 𝓤 H A curlewreel-headend-receive₀.ended stayed (WpFn 𝓤 H C Λ code.function) (curlewreel-headend-receive₀.clauses 𝓤 H A mem run)
+  curlewreel-headend-receive-walks : (C : Calls 𝓤 H) (Λ : Loops 𝓤 H) → FmC 𝓤 H (W .laws) C → Triple 𝓤 (C #for-c·headend-values·asked) (Askedᶜ 𝓤 H A mem run) → Triple 𝓤 (C #for-c·headend-values·is-one) (IsOneᶜ 𝓤 H A mem run) → Triple 𝓤 (C #headend·calls·receive) (Receiveᶜ 𝓤 H A mem run) → Triple 𝓤 (C #for-c·headend-values·received) (Receivedᶜ 𝓤 H A mem run) → Walks 𝓤 H A curlewreel-headend-receive₀.ended stayed (WpFn 𝓤 H C Λ code.function) (curlewreel-headend-receive₀.clauses 𝓤 H A mem run)
   curlewreel-headend-receive-walks C Λ fm known-asked known-is-one known-receive known-received = walked 𝓤 H A curlewreel-headend-receive₀.ended stayed (curlewreel-headend-receive₀.clauses 𝓤 H A mem run) (WpFn 𝓤 H C Λ code.function)
       (λ κs. (LL.vals HeadEnd₁.the-type HeadEnd₁′.the-laws, (slice-vals, (uint-vals w64, (slice-vals, (uint-vals w8, (slice-vals, (slice-vals, tt)))))))) (λ κs. (LL.tells HeadEnd₁.the-type HeadEnd₁′.the-laws, (shr-slice-tells (named 0) (κs .0) Assoc₁.the-row, (uint-tells w64, (shr-slice-tells (named 1) (κs .1 .0) u8, (uint-tells w8, (shr-slice-tells (named 2) (κs .1 .1 .0) u8, (mut-slice-tells (named 3) (κs .1 .1 .1 .0) u8, tt))))))))
       (λ κs qs bounds a g are. via 𝓤 _ (fst∗ 𝓤 _ (emp 𝓤))
       (walk 𝓤 H A W mem run (κs .0) (κs .1 .0) (κs .1 .1 .0) (κs .1 .1 .1 .0) (qs .0) (qs .1 .0) (qs .1 .1 .0) (qs .1 .1 .1 .0) (a .0) (a .1 .0) (a .1 .1 .0) (a .1 .1 .1 .0) (a .1 .1 .1 .1 .0) (a .1 .1 .1 .1 .1 .0) (a .1 .1 .1 .1 .1 .1 .0) (are .0) (are .1 .0 .0 .1) (are .1 .1 .0 .1) (are .1 .1 .1 .0 .0 .1) (are .1 .1 .1 .1 .0 .1) (are .1 .1 .1 .1 .1 .0 .0 .1) (are .1 .1 .1 .1 .1 .1 .0 .0 .1) C Λ fm known-asked known-is-one known-receive known-received))
 
-curlewreel-headend-receive-meets : {M : Type 1} (𝓤 : URA M) (H : Heap 𝓤) (A : Atoms 𝓤) → Given 𝓤 H A → (mem : Memory → SProp 𝓤) (run : Routine → Fun 𝓤) (𝓣 : Tables 𝓤 H) → Triple 𝓤 (𝓣 .C #firmware·headend-calls·asked) (Askedᶜ 𝓤 H A mem run) → Triple 𝓤 (𝓣 .C #firmware·headend-calls·is-one) (IsOneᶜ 𝓤 H A mem run) → Triple 𝓤 (𝓣 .C #headend·calls·receive) (Receiveᶜ 𝓤 H A mem run) → Triple 𝓤 (𝓣 .C #firmware·headend-calls·received) (Receivedᶜ 𝓤 H A mem run)
+curlewreel-headend-receive-meets : {M : Type 1} (𝓤 : URA M) (H : Heap 𝓤) (A : Atoms 𝓤) → Given 𝓤 H A → (mem : Memory → SProp 𝓤) (run : Routine → Fun 𝓤) (𝓣 : Tables 𝓤 H) → Triple 𝓤 (𝓣 .C #for-c·headend-values·asked) (Askedᶜ 𝓤 H A mem run) → Triple 𝓤 (𝓣 .C #for-c·headend-values·is-one) (IsOneᶜ 𝓤 H A mem run) → Triple 𝓤 (𝓣 .C #headend·calls·receive) (Receiveᶜ 𝓤 H A mem run) → Triple 𝓤 (𝓣 .C #for-c·headend-values·received) (Receivedᶜ 𝓤 H A mem run)
     → Meets 𝓤 H A curlewreel-headend-receive₀.signature (WpFn 𝓤 H (𝓣 .C) (𝓣 .Λ) code.function) (curlewreel-headend-receive₀.spec 𝓤 H A mem run)
 curlewreel-headend-receive-meets 𝓤 H A W mem run 𝓣 known-asked known-is-one known-receive known-received =
     walk-meets 𝓤 H A curlewreel-headend-receive₀.ended stayed W (goes-none 𝓤 H A W 4 (λ _. HeadEnd₁.the-row) yes (λ κs x f. refl), (goes-none-slice 𝓤 H A W 4 (0 ∷ []) tt (plain (λ _. Assoc₁.the-row)) yes, (goes-none 𝓤 H A W 4 (λ _. u64) yes (λ κs x f. refl), (goes-none-slice 𝓤 H A W 4 (1 ∷ []) tt (plain (λ _. u8)) yes, (goes-none 𝓤 H A W 4 (λ _. u8) yes (λ κs x f. refl), (goes-none-slice 𝓤 H A W 4 (2 ∷ []) tt (plain (λ _. u8)) yes, (goes-gave-slice 𝓤 H A W 4 3 tt (plain (λ _. u8)), tt))))))) (curlewreel-headend-receive₀.clauses 𝓤 H A mem run)
@@ -358,7 +358,7 @@ curlewreel-headend-receive-spec 𝓤 H 𝓜 𝓖 𝓡 =
     entered 𝓤 H (tripleOf 𝓤 H (𝓖 .A) curlewreel-headend-receive₀.signature (curlewreel-headend-receive₀.spec 𝓤 H (𝓖 .A) (𝓜 .mem) (𝓡 .run)))
     (tables 𝓤 H 𝓜 𝓡 code.env .C) (tables 𝓤 H 𝓜 𝓡 code.env .Λ) #here code.function (code.unfolded 𝓤 H 𝓜 𝓡)
     (curlewreel-headend-receive-meets 𝓤 H (𝓖 .A) (givenOf 𝓤 H 𝓜 𝓖) (𝓜 .mem) (𝓡 .run) (tablesOf 𝓤 H 𝓜 (tables 𝓤 H 𝓜 𝓡 code.env))
-    (cited 𝓤 H (Askedᶜ 𝓤 H (𝓖 .A) (𝓜 .mem) (𝓡 .run)) 𝓜 𝓡 code.env #firmware·headend-calls·asked asked-def.routine code.calls-firmware·headend-calls·asked (asked-thm.met 𝓤 H 𝓜 𝓖 𝓡))
-    (cited 𝓤 H (IsOneᶜ 𝓤 H (𝓖 .A) (𝓜 .mem) (𝓡 .run)) 𝓜 𝓡 code.env #firmware·headend-calls·is-one is-one-def.routine code.calls-firmware·headend-calls·is-one (is-one-thm.met 𝓤 H 𝓜 𝓖 𝓡))
+    (cited 𝓤 H (Askedᶜ 𝓤 H (𝓖 .A) (𝓜 .mem) (𝓡 .run)) 𝓜 𝓡 code.env #for-c·headend-values·asked asked-def.routine code.calls-for-c·headend-values·asked (asked-thm.met 𝓤 H 𝓜 𝓖 𝓡))
+    (cited 𝓤 H (IsOneᶜ 𝓤 H (𝓖 .A) (𝓜 .mem) (𝓡 .run)) 𝓜 𝓡 code.env #for-c·headend-values·is-one is-one-def.routine code.calls-for-c·headend-values·is-one (is-one-thm.met 𝓤 H 𝓜 𝓖 𝓡))
     (cited 𝓤 H (Receiveᶜ 𝓤 H (𝓖 .A) (𝓜 .mem) (𝓡 .run)) 𝓜 𝓡 code.env #headend·calls·receive receive-def.routine code.calls-headend·calls·receive (receive-thm.met 𝓤 H 𝓜 𝓖 𝓡))
-    (cited 𝓤 H (Receivedᶜ 𝓤 H (𝓖 .A) (𝓜 .mem) (𝓡 .run)) 𝓜 𝓡 code.env #firmware·headend-calls·received received-def.routine code.calls-firmware·headend-calls·received (received-thm.met 𝓤 H 𝓜 𝓖 𝓡)))
+    (cited 𝓤 H (Receivedᶜ 𝓤 H (𝓖 .A) (𝓜 .mem) (𝓡 .run)) 𝓜 𝓡 code.env #for-c·headend-values·received received-def.routine code.calls-for-c·headend-values·received (received-thm.met 𝓤 H 𝓜 𝓖 𝓡)))

@@ -38,9 +38,9 @@ use denote.Triple.Spec.{Meets, tripleOf}
 use denote.Triple.Table.{entered, cited}
 use denote.Triple.Walked.{says, Stays, stay-none-slice, stay-none, gave-slice, walkOf, goes-none-slice, goes-none, goes-gave-slice, Walks, ends-at, walked, walk-meets}
 use denote.Exit.{yes}
-use Rattle.firmware.specs.declared.modem_calls.FrameSealed.{FrameSealed}
-use Rattle.firmware.proofs.modem_calls.FrameSealed as FrameSealed₁
-use Rattle.firmware.proofs.modem_calls.FrameSealed.Laws as FrameSealed₁′
+use Rattle.for_c.specs.declared.modem_values.FrameSealed.{FrameSealed}
+use Rattle.for_c.proofs.modem_values.FrameSealed as FrameSealed₁
+use Rattle.for_c.proofs.modem_values.FrameSealed.Laws as FrameSealed₁′
 use Rattle.headend_state.specs.declared.state.HeadEnd.{HeadEnd}
 use Rattle.headend_state.proofs.state.HeadEnd as HeadEnd₁
 use Rattle.headend_state.proofs.state.HeadEnd.Laws as HeadEnd₁′
@@ -53,14 +53,14 @@ use Rattle.headend.proofs.frames.seal as seal′
 use Rattle.headend.proofs.frames.seal.Symbol as seal-def
 use Rattle.headend.proofs.frames.seal.Symbol.{name as #headend·frames·seal}
 use Rattle.headend.proofs.frames.seal.Met as seal-thm
-use Rattle.firmware.proofs.modem_calls.frame_sealed as frame-sealed′
-use Rattle.firmware.proofs.modem_calls.frame_sealed.Symbol as frame-sealed-def
-use Rattle.firmware.proofs.modem_calls.frame_sealed.Symbol.{name as #firmware·modem-calls·frame-sealed}
-use Rattle.firmware.proofs.modem_calls.frame_sealed.Met as frame-sealed-thm
+use Rattle.for_c.proofs.modem_values.frame_sealed as frame-sealed′
+use Rattle.for_c.proofs.modem_values.frame_sealed.Symbol as frame-sealed-def
+use Rattle.for_c.proofs.modem_values.frame_sealed.Symbol.{name as #for-c·modem-values·frame-sealed}
+use Rattle.for_c.proofs.modem_values.frame_sealed.Met as frame-sealed-thm
 use Rattle.keys.specs.Octets.{overlay}
 use Rattle.keys.specs.Sealing.{sealCalled}
-use Rattle.headend.specs.FrameCalls.{sealOf}
-use Rattle.firmware.specs.ModemCalls.{frameSealed}
+use Rattle.headend_rules.specs.FrameCalls.{sealOf}
+use Rattle.for_c.specs.ModemCalls.{frameSealed}
 use Rattle.firmware.proofs.headend_calls.curlewreel_headend_seal.Key.{name as #here}
 use Rattle.firmware.proofs.headend_calls.curlewreel_headend_seal as curlewreel-headend-seal₀
 use Rattle.firmware.proofs.headend_calls.curlewreel_headend_seal.Statement as stated
@@ -149,7 +149,7 @@ module _ {M : Type 1} (𝓤 : URA M) (H : Heap 𝓤) (A : Atoms 𝓤) (W : Given
     said-frame-sealed-last : (r : FrameSealed) → ent 𝓤 (ensured 𝓤 H A frame-sealed′.ended (frame-sealed′.clauses 𝓤 H A mem run) tt frame-sealed-last-args tt r) (fact 𝓤 (r ≡ frameSealed got))
     said-frame-sealed-last r = exE 𝓤 _ (λ ws. snd∗ 𝓤 (sem 𝓤 H A (lasts frame-sealed′.ended tt frame-sealed-last-args ws)) (fact 𝓤 (r ≡ frameSealed got)))
 
-  module _ (C : Calls 𝓤 H) (Λ : Loops 𝓤 H) (fm : FmC 𝓤 H (W .laws) C) (known-seal : Triple 𝓤 (C #headend·frames·seal) (Sealᶜ 𝓤 H A mem run)) (known-frame-sealed : Triple 𝓤 (C #firmware·modem-calls·frame-sealed) (FrameSealedᶜ 𝓤 H A mem run)) (l₀ l₁ l₂ l₃ l₄ l₅ l₆ l₇ l₈ l₉ l₁₀ l₁₁ : ℕ) where
+  module _ (C : Calls 𝓤 H) (Λ : Loops 𝓤 H) (fm : FmC 𝓤 H (W .laws) C) (known-seal : Triple 𝓤 (C #headend·frames·seal) (Sealᶜ 𝓤 H A mem run)) (known-frame-sealed : Triple 𝓤 (C #for-c·modem-values·frame-sealed) (FrameSealedᶜ 𝓤 H A mem run)) (l₀ l₁ l₂ l₃ l₄ l₅ l₆ l₇ l₈ l₉ l₁₀ l₁₁ : ℕ) where
     abbrev En : Env 𝓤 H
     En = (FrameSealed₁′.mir, l₀) ∷ (HeadEnd₁′.mir, l₁) ∷ ((sliceTy (tyRef (named 0) imm (pointee (Assoc₁.the-row .written)))), l₂) ∷ ((tyInt w64), l₃) ∷ ((tyInt w16), l₄) ∷ ((sliceTy (tyRef (named 1) mut (tyInt w8))), l₅) ∷ ((sliceTy (tyRef (named 2) mut (tyInt w8))), l₆) ∷ (SealedCall₁′.mir, l₇) ∷ ((tyRef erased mut (tyInt w8)), l₈) ∷ ((sliceTy (tyRef erased mut (tyInt w8))), l₉) ∷ ((tyRef erased mut (tyInt w8)), l₁₀) ∷ ((sliceTy (tyRef erased mut (tyInt w8))), l₁₁) ∷ []
 
@@ -233,7 +233,7 @@ module _ {M : Type 1} (𝓤 : URA M) (H : Heap 𝓤) (A : Atoms 𝓤) (W : Given
         keep ! (11 ∷ 3 ∷ 6 ∷ 2 ∷ 4 ∷ 0 ∷ []) $
         by ! (exits r w (zs .1 .1 .1 .1 .0) (zs .1 .1 .1 .1 .1 .0) is same-tek same-vector (r-said ∙ ap (λ (z : SealedCall). frameSealed z) (right .0), right .1, right .2)))))))))))))
 
-  module _ (C : Calls 𝓤 H) (Λ : Loops 𝓤 H) (fm : FmC 𝓤 H (W .laws) C) (known-seal : Triple 𝓤 (C #headend·frames·seal) (Sealᶜ 𝓤 H A mem run)) (known-frame-sealed : Triple 𝓤 (C #firmware·modem-calls·frame-sealed) (FrameSealedᶜ 𝓤 H A mem run)) where
+  module _ (C : Calls 𝓤 H) (Λ : Loops 𝓤 H) (fm : FmC 𝓤 H (W .laws) C) (known-seal : Triple 𝓤 (C #headend·frames·seal) (Sealᶜ 𝓤 H A mem run)) (known-frame-sealed : Triple 𝓤 (C #for-c·modem-values·frame-sealed) (FrameSealedᶜ 𝓤 H A mem run)) where
     walk : ent 𝓤 (onEntry 𝓤 H A curlewreel-headend-seal₀.signature (κ, (μ, (κ₃, tt))) (q, (p, (q₃, tt))) a vals) (WpFn 𝓤 H C Λ code.function ((LL.val HeadEnd₁.the-type HeadEnd₁′.the-laws h) ∷ records-val ∷ (vint w64 address) ∷ (vint w16 said) ∷ tek-val ∷ vector-val ∷ []) Post)
     walk =
         qed W ((‵ (flft κ q) ⊛ (‵ (flft μ p) ⊛ (‵ (flft κ₃ q₃) ⊛ ‵ ftrue))) ∷ ‵ (owns (HeadEnd₁.the-row ∷ ShrSlice (named 0) κ Assoc₁.the-row ∷ u64 ∷ u16 ∷ MutSlice (named 1) μ u8 ∷ MutSlice (named 2) κ₃ u8 ∷ []) a vals) ∷ []) ∵ enter ! C Λ code.function ((LL.val HeadEnd₁.the-type HeadEnd₁′.the-laws h) ∷ records-val ∷ (vint w64 address) ∷ (vint w16 said) ∷ tek-val ∷ vector-val ∷ []) _ $
@@ -244,13 +244,13 @@ module _ {M : Type 1} (𝓤 : URA M) (H : Heap 𝓤) (A : Atoms 𝓤) (W : Given
         stage-1 C Λ fm known-seal known-frame-sealed l₀ l₁ l₂ l₃ l₄ l₅ l₆ l₇ l₈ l₉ l₁₀ l₁₁))))))))))))
 
 module _ {M : Type 1} (𝓤 : URA M) (H : Heap 𝓤) (A : Atoms 𝓤) (W : Given 𝓤 H A) (mem : Memory → SProp 𝓤) (run : Routine → Fun 𝓤) where
-  curlewreel-headend-seal-walks : (C : Calls 𝓤 H) (Λ : Loops 𝓤 H) → FmC 𝓤 H (W .laws) C → Triple 𝓤 (C #headend·frames·seal) (Sealᶜ 𝓤 H A mem run) → Triple 𝓤 (C #firmware·modem-calls·frame-sealed) (FrameSealedᶜ 𝓤 H A mem run) → Walks 𝓤 H A curlewreel-headend-seal₀.ended stayed (WpFn 𝓤 H C Λ code.function) (curlewreel-headend-seal₀.clauses 𝓤 H A mem run)
+  curlewreel-headend-seal-walks : (C : Calls 𝓤 H) (Λ : Loops 𝓤 H) → FmC 𝓤 H (W .laws) C → Triple 𝓤 (C #headend·frames·seal) (Sealᶜ 𝓤 H A mem run) → Triple 𝓤 (C #for-c·modem-values·frame-sealed) (FrameSealedᶜ 𝓤 H A mem run) → Walks 𝓤 H A curlewreel-headend-seal₀.ended stayed (WpFn 𝓤 H C Λ code.function) (curlewreel-headend-seal₀.clauses 𝓤 H A mem run)
   curlewreel-headend-seal-walks C Λ fm known-seal known-frame-sealed = walked 𝓤 H A curlewreel-headend-seal₀.ended stayed (curlewreel-headend-seal₀.clauses 𝓤 H A mem run) (WpFn 𝓤 H C Λ code.function)
       (λ κs. (LL.vals HeadEnd₁.the-type HeadEnd₁′.the-laws, (slice-vals, (uint-vals w64, (uint-vals w16, (slice-vals, (slice-vals, tt))))))) (λ κs. (LL.tells HeadEnd₁.the-type HeadEnd₁′.the-laws, (shr-slice-tells (named 0) (κs .0) Assoc₁.the-row, (uint-tells w64, (uint-tells w16, (mut-slice-tells (named 1) (κs .1 .0) u8, (mut-slice-tells (named 2) (κs .1 .1 .0) u8, tt)))))))
       (λ κs qs bounds a g are. via 𝓤 _ (fst∗ 𝓤 _ (emp 𝓤))
       (walk 𝓤 H A W mem run (κs .0) (κs .1 .0) (κs .1 .1 .0) (qs .0) (qs .1 .0) (qs .1 .1 .0) (a .0) (a .1 .0) (a .1 .1 .0) (a .1 .1 .1 .0) (a .1 .1 .1 .1 .0) (a .1 .1 .1 .1 .1 .0) (are .0) (are .1 .0 .0 .1) (are .1 .1 .0 .1) (are .1 .1 .1 .0 .1) (are .1 .1 .1 .1 .0 .0 .1) (are .1 .1 .1 .1 .1 .0 .0 .1) C Λ fm known-seal known-frame-sealed))
 
-curlewreel-headend-seal-meets : {M : Type 1} (𝓤 : URA M) (H : Heap 𝓤) (A : Atoms 𝓤) → Given 𝓤 H A → (mem : Memory → SProp 𝓤) (run : Routine → Fun 𝓤) (𝓣 : Tables 𝓤 H) → Triple 𝓤 (𝓣 .C #headend·frames·seal) (Sealᶜ 𝓤 H A mem run) → Triple 𝓤 (𝓣 .C #firmware·modem-calls·frame-sealed) (FrameSealedᶜ 𝓤 H A mem run)
+curlewreel-headend-seal-meets : {M : Type 1} (𝓤 : URA M) (H : Heap 𝓤) (A : Atoms 𝓤) → Given 𝓤 H A → (mem : Memory → SProp 𝓤) (run : Routine → Fun 𝓤) (𝓣 : Tables 𝓤 H) → Triple 𝓤 (𝓣 .C #headend·frames·seal) (Sealᶜ 𝓤 H A mem run) → Triple 𝓤 (𝓣 .C #for-c·modem-values·frame-sealed) (FrameSealedᶜ 𝓤 H A mem run)
     → Meets 𝓤 H A curlewreel-headend-seal₀.signature (WpFn 𝓤 H (𝓣 .C) (𝓣 .Λ) code.function) (curlewreel-headend-seal₀.spec 𝓤 H A mem run)
 curlewreel-headend-seal-meets 𝓤 H A W mem run 𝓣 known-seal known-frame-sealed =
     walk-meets 𝓤 H A curlewreel-headend-seal₀.ended stayed W (goes-none 𝓤 H A W 3 (λ _. HeadEnd₁.the-row) yes (λ κs x f. refl), (goes-none-slice 𝓤 H A W 3 (0 ∷ []) tt (plain (λ _. Assoc₁.the-row)) yes, (goes-none 𝓤 H A W 3 (λ _. u64) yes (λ κs x f. refl), (goes-none 𝓤 H A W 3 (λ _. u16) yes (λ κs x f. refl), (goes-gave-slice 𝓤 H A W 3 1 tt (plain (λ _. u8)), (goes-gave-slice 𝓤 H A W 3 2 tt (plain (λ _. u8)), tt)))))) (curlewreel-headend-seal₀.clauses 𝓤 H A mem run)
@@ -263,4 +263,4 @@ curlewreel-headend-seal-spec 𝓤 H 𝓜 𝓖 𝓡 =
     (tables 𝓤 H 𝓜 𝓡 code.env .C) (tables 𝓤 H 𝓜 𝓡 code.env .Λ) #here code.function (code.unfolded 𝓤 H 𝓜 𝓡)
     (curlewreel-headend-seal-meets 𝓤 H (𝓖 .A) (givenOf 𝓤 H 𝓜 𝓖) (𝓜 .mem) (𝓡 .run) (tablesOf 𝓤 H 𝓜 (tables 𝓤 H 𝓜 𝓡 code.env))
     (cited 𝓤 H (Sealᶜ 𝓤 H (𝓖 .A) (𝓜 .mem) (𝓡 .run)) 𝓜 𝓡 code.env #headend·frames·seal seal-def.routine code.calls-headend·frames·seal (seal-thm.met 𝓤 H 𝓜 𝓖 𝓡))
-    (cited 𝓤 H (FrameSealedᶜ 𝓤 H (𝓖 .A) (𝓜 .mem) (𝓡 .run)) 𝓜 𝓡 code.env #firmware·modem-calls·frame-sealed frame-sealed-def.routine code.calls-firmware·modem-calls·frame-sealed (frame-sealed-thm.met 𝓤 H 𝓜 𝓖 𝓡)))
+    (cited 𝓤 H (FrameSealedᶜ 𝓤 H (𝓖 .A) (𝓜 .mem) (𝓡 .run)) 𝓜 𝓡 code.env #for-c·modem-values·frame-sealed frame-sealed-def.routine code.calls-for-c·modem-values·frame-sealed (frame-sealed-thm.met 𝓤 H 𝓜 𝓖 𝓡)))

@@ -1,5 +1,5 @@
 -- `firmware::modem_calls::curlewreel_modem_new` meets its contract.
-use Rattle.firmware.proofs.ModemCallLaws.{handed}
+use Rattle.for_c.proofs.ModemCallLaws.{handed}
 use borrow.Author.Needs.{needs}
 use Rattle.firmware.proofs.modem_calls.curlewreel_modem_new.Statement.{statement}
 use Rattle.firmware.proofs.modem_calls.curlewreel_modem_new.Tie as tie

@@ -1,6 +1,6 @@
 -- `firmware::modem_calls::curlewreel_modem_open` meets its contract.
 use borrow.Author.Needs.{needs}
-use Rattle.firmware.proofs.ModemCallLaws.{opened-as}
+use Rattle.for_c.proofs.ModemCallLaws.{opened-as}
 use Rattle.firmware.proofs.modem_calls.curlewreel_modem_open.Statement.{statement}
 use Rattle.firmware.proofs.modem_calls.curlewreel_modem_open.Tie as tie
 

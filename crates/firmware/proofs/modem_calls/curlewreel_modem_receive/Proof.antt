@@ -2,7 +2,7 @@
 use denote.Ref.{now}
 use borrow.Author.Tests.{le-leb, lt-leb}
 use borrow.Author.Needs.{needs}
-use Rattle.firmware.proofs.ModemCallLaws.{handed, flag-refused, flag-taken}
+use Rattle.for_c.proofs.ModemCallLaws.{handed, flag-refused, flag-taken}
 use Rattle.firmware.proofs.modem_calls.curlewreel_modem_receive.Statement.{statement}
 use Rattle.firmware.proofs.modem_calls.curlewreel_modem_receive.Tie as tie
 

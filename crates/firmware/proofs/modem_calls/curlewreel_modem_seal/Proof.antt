@@ -1,6 +1,6 @@
 -- `firmware::modem_calls::curlewreel_modem_seal` meets its contract.
 use borrow.Author.Needs.{needs}
-use Rattle.firmware.proofs.ModemCallLaws.{sealed-as}
+use Rattle.for_c.proofs.ModemCallLaws.{sealed-as}
 use Rattle.firmware.proofs.modem_calls.curlewreel_modem_seal.Statement.{statement}
 use Rattle.firmware.proofs.modem_calls.curlewreel_modem_seal.Tie as tie
 

@@ -4,7 +4,7 @@ use mathlib.Core.Path.{ap, _∙_}
 use borrow.Author.Tests.{le-leb, lt-leb}
 use Rattle.wire.specs.Reading.{readOf}
 use Rattle.wire.specs.declared.fields.Receiver.{Receiver}
-use Rattle.firmware.proofs.ReadLaws.{end-refused, slice-refused, message-refused, message-read}
+use Rattle.for_c.proofs.ReadLaws.{end-refused, slice-refused, message-refused, message-read}
 use borrow.Author.Needs.{needs}
 use Rattle.firmware.proofs.read.curlewreel_read.Statement.{statement}
 use Rattle.firmware.proofs.read.curlewreel_read.Tie as tie

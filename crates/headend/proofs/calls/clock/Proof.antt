@@ -78,15 +78,15 @@ use Rattle.records.proofs.roll as roll′
 use Rattle.records.proofs.roll.Symbol as roll-def
 use Rattle.records.proofs.roll.Symbol.{name as #records·roll}
 use Rattle.records.proofs.roll.Met as roll-thm
-use Rattle.keys.specs.Refusal.{answerNumber}
+use Rattle.questions.specs.Refusal.{answerNumber}
 use Rattle.records.specs.Records.{firstOf, rolledTo, RollFit}
 use Rattle.records.proofs.RecordsLaws.{holds, fails}
 use Rattle.records.proofs.Again.{LentAgain, lends-again, comes-back}
 use Rattle.records.proofs.Shown.{LentShown, shows-again, comes-home}
 use Rattle.headend_limits.specs.Search.{halfIn, outOfLimits}
 use Rattle.headend_steps.specs.Clock.{clockCalled}
-use Rattle.headend.specs.Calls.{clockRecords}
-use Rattle.headend.proofs.CallsLaws.{clock-fit, clock-rolled, clock-kept}
+use Rattle.headend_rules.specs.Calls.{clockRecords}
+use Rattle.headend_rules.proofs.CallsLaws.{clock-fit, clock-rolled, clock-kept}
 use Rattle.headend.proofs.calls.clock.Key.{name as #here}
 use Rattle.headend.proofs.calls.clock as clock₀
 use Rattle.headend.proofs.calls.clock.Statement as stated

@@ -85,15 +85,15 @@ use Rattle.records.proofs.store as store′
 use Rattle.records.proofs.store.Symbol as store-def
 use Rattle.records.proofs.store.Symbol.{name as #records·store}
 use Rattle.records.proofs.store.Met as store-thm
-use Rattle.keys.specs.Refusal.{answerNumber}
+use Rattle.questions.specs.Refusal.{answerNumber}
 use Rattle.records.specs.Records.{firstOf, storedAt, StoreFit}
 use Rattle.records.proofs.RecordsLaws.{holds, fails}
 use Rattle.records.proofs.Again.{LentAgain, lends-again, comes-back}
 use Rattle.records.proofs.Shown.{LentShown, shows-again, comes-home}
 use Rattle.headend_limits.specs.Search.{halfIn, outOfLimits, oneOf}
 use Rattle.headend_steps.specs.Listing.{listCalled}
-use Rattle.headend.specs.Calls.{listRecords}
-use Rattle.headend.proofs.CallsLaws.{list-fit, list-stored, list-kept}
+use Rattle.headend_rules.specs.Calls.{listRecords}
+use Rattle.headend_rules.proofs.CallsLaws.{list-fit, list-stored, list-kept}
 use Rattle.headend.proofs.calls.list.Key.{name as #here}
 use Rattle.headend.proofs.calls.list as list₀
 use Rattle.headend.proofs.calls.list.Statement as stated

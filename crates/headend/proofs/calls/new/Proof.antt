@@ -1,6 +1,6 @@
 -- `headend::calls::new` meets its contract.
 use mathlib.Core.Path.{sym, _∙_}
-use Rattle.headend.specs.Calls.{newOf}
+use Rattle.headend_rules.specs.Calls.{newOf}
 use borrow.Author.Needs.{needs}
 use Rattle.headend.proofs.calls.new.Statement.{statement}
 use Rattle.headend.proofs.calls.new.Tie as tie

@@ -4,7 +4,7 @@ use lib.ListN.{length}
 use borrow.Author.Tests.{not-true, not-false}
 use borrow.Author.Needs.{needs}
 use Rattle.keys.specs.Suites.{widthOf}
-use Rattle.keys.proofs.AnswerLaws.{is-done}
+use Rattle.questions.proofs.AnswerLaws.{is-done}
 use Rattle.headend_frames.specs.Frames.{sealedWith}
 use Rattle.headend_frames.proofs.FrameCallLaws.{seal-room, seal-refused, seal-done}
 use Rattle.headend_frames.proofs.frames.seal_called.Statement.{statement}

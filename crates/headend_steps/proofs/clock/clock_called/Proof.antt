@@ -1,7 +1,7 @@
 -- `headend_steps::clock::clock_called` meets its contract.
 use mathlib.Core.Path.{sym, _∙_, ap}
 use borrow.Author.Tests.{not-true, not-false}
-use Rattle.keys.specs.declared.refusal.Answer.{Answer}
+use Rattle.questions.specs.declared.refusal.Answer.{Answer}
 use Rattle.headend_state.specs.declared.state.HeadEnd.{HeadEnd}
 use Rattle.headend_state.specs.State.{answeredCall}
 use Rattle.headend_steps.specs.Clock.{clockFor, clockCalled}

@@ -1,8 +1,8 @@
 -- `headend_steps::listing::list_called` meets its contract.
 use mathlib.Core.Path.{sym, _∙_, ap}
 use borrow.Author.Tests.{not-true, not-false}
-use Rattle.keys.specs.declared.refusal.Answer.{Answer}
-use Rattle.keys.proofs.AnswerLaws.{is-done}
+use Rattle.questions.specs.declared.refusal.Answer.{Answer}
+use Rattle.questions.proofs.AnswerLaws.{is-done}
 use Rattle.headend_state.specs.declared.state.HeadEnd.{HeadEnd}
 use Rattle.headend_state.specs.State.{answeredCall}
 use Rattle.headend_steps.specs.Listing.{listFor, listCalled}

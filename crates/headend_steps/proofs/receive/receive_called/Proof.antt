@@ -6,9 +6,9 @@ use Prim.Native.Nat.{ℕ}
 use lib.ListN.{length}
 use borrow.Author.Tests.{not-true, not-false}
 use borrow.Author.Needs.{needs}
-use Rattle.keys.specs.declared.refusal.Answer.{Answer}
+use Rattle.questions.specs.declared.refusal.Answer.{Answer}
 use Rattle.keys.specs.Octets.{overlay}
-use Rattle.keys.proofs.AnswerLaws.{is-done}
+use Rattle.questions.proofs.AnswerLaws.{is-done}
 use Rattle.association.specs.declared.search.Found.{Found}
 use Rattle.wire.specs.declared.fields.Reading.{Reading}
 use Rattle.headend_state.specs.declared.state.HeadEnd.{HeadEnd}

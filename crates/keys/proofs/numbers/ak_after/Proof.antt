@@ -2,7 +2,7 @@
 use Prim.Native.Nat.{ℕ}
 use mathlib.Core.Path.{ap}
 use borrow.Author.Needs.{needs}
-use Rattle.keys.proofs.TestLaws.{mod-once}
+use Rattle.questions.proofs.TestLaws.{mod-once}
 use Rattle.keys.proofs.numbers.ak_after.Statement.{statement}
 use Rattle.keys.proofs.numbers.ak_after.Tie as tie
 

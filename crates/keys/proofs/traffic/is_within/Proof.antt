@@ -1,5 +1,5 @@
 -- `keys::traffic::is_within` meets its contract.
-use Rattle.keys.proofs.TestLaws.{sub-leb, le-sum}
+use Rattle.questions.proofs.TestLaws.{sub-leb, le-sum}
 use native.Mathlib.Omega.{arith}
 use mathlib.Core.Path.{sym}
 use borrow.Author.Needs.{needs}

@@ -6,7 +6,7 @@ use Rattle.modem.proofs.SentFits.{clocked-out}
 use Rattle.modem.specs.Calls.{clockOf, clockFits, clockQuestions}
 use Rattle.modem_steps.specs.Clock.{clocked}
 use Rattle.modem_limits.specs.Limits.{modemFits}
-use Rattle.keys.specs.declared.refusal.Refusal.the-variants.{OutOfLimits, WrongLength, ClockOutOfOrder}
+use Rattle.questions.specs.declared.refusal.Refusal.the-variants.{OutOfLimits, WrongLength, ClockOutOfOrder}
 use borrow.Author.Tests.{not-true, not-false}
 use lib.ListN.{length}
 use mathlib.Core.Bool.{true, false}

@@ -8,7 +8,7 @@ use Rattle.modem.proofs.SentFits.{plain-out}
 use Rattle.modem.proofs.OutLaws.{out-wider}
 use Rattle.modem.proofs.AskedLaws.{fits-ready}
 use Rattle.modem_steps.proofs.ReadyLaws.{started-ready}
-use Rattle.keys.specs.declared.refusal.Refusal.the-variants.{OutOfLimits, WrongLength}
+use Rattle.questions.specs.declared.refusal.Refusal.the-variants.{OutOfLimits, WrongLength}
 use Rattle.modem.specs.Calls.{eventOf}
 use Rattle.modem_steps.specs.Machine.{plainEvent}
 use Rattle.modem_steps.specs.State.{starting}

@@ -2,15 +2,15 @@
 use Rattle.modem.proofs.AnswerLaws.{refused-by, done-by, handed-on, limits-no, length-no, first-met, message-no, widths-no, said-no, identifier-no, digest-no, all-met, out-there, reading-done, reading-no, reading-fields}
 use Rattle.modem.proofs.SentFits.{message-out}
 use Rattle.modem.proofs.AskedLaws.{fits-ready, takeable}
-use Rattle.keys.specs.Refusal.{isDone}
+use Rattle.questions.specs.Refusal.{isDone}
 use Rattle.modem.specs.Calls.{receiveOf}
 use Rattle.modem_limits.specs.Limits.{modemFits}
 use Rattle.modem_receive.specs.Receive.{widthsFit, saidKnown, identifierFits, digestHolds, receiveQuestions, Takeable, received, fieldsIn}
 use Rattle.wire.specs.Messages.{messageAnswer}
 use Rattle.wire.specs.declared.fields.Receiver.the-variants.{Modem as AtModem}
 use Rattle.wire.specs.declared.fields.Fields.{Fields}
-use Rattle.keys.specs.declared.refusal.Refusal.the-variants.{OutOfLimits, WrongLength, WrongAttributes, UnknownSaid, WrongIdentifier, DigestFails}
-use Rattle.keys.specs.declared.refusal.Answer.the-variants.{Done}
+use Rattle.questions.specs.declared.refusal.Refusal.the-variants.{OutOfLimits, WrongLength, WrongAttributes, UnknownSaid, WrongIdentifier, DigestFails}
+use Rattle.questions.specs.declared.refusal.Answer.the-variants.{Done}
 use borrow.Author.Tests.{not-true, not-false}
 use lib.ListN.{length}
 use mathlib.Core.Bool.{true, false}

@@ -1,5 +1,5 @@
 -- `modem_frames::frames::can_open` meets its contract.
-use Rattle.modem_frames.proofs.FrameCalledLaws.{opens-by}
+use Rattle.modem_frames.proofs.MachineLaws.{opens-by}
 use borrow.Author.Needs.{needs}
 use Rattle.modem_frames.proofs.frames.can_open.Statement.{statement}
 use Rattle.modem_frames.proofs.frames.can_open.Tie as tie

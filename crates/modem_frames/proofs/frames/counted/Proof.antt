@@ -1,5 +1,5 @@
 -- `modem_frames::frames::counted` meets its contract.
-use Rattle.modem_frames.proofs.FrameCalledLaws.{counted-taken, counted-refused, counted-not}
+use Rattle.modem_frames.proofs.MachineLaws.{counted-taken, counted-refused, counted-not}
 use borrow.Author.Needs.{needs}
 use Rattle.modem_frames.proofs.frames.counted.Statement.{statement}
 use Rattle.modem_frames.proofs.frames.counted.Tie as tie

@@ -1,5 +1,5 @@
 -- `modem_frames::frames::machine_of` meets its contract.
-use Rattle.modem_frames.proofs.FrameCalledLaws.{machine-none, machine-is}
+use Rattle.modem_frames.proofs.MachineLaws.{machine-none, machine-is}
 use mathlib.Core.Path.{_∙_}
 use borrow.Author.Needs.{needs}
 use Rattle.modem_frames.proofs.frames.machine_of.Statement.{statement}

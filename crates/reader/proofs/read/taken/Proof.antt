@@ -1,10 +1,10 @@
 -- `reader::read::taken` meets its contract.
 use Rattle.reader.specs.Taken.{takenFrom, firstOf, placeIn}
-use Rattle.holders.specs.declared.compound.Compounds.{Compounds}
+use Rattle.compounds.specs.declared.compound.Compounds.{Compounds}
 use Rattle.holders.specs.declared.pass.Body.{Body}
 use Rattle.wire.specs.declared.fields.Reading.{Reading}
 use Rattle.wire.specs.Attributes.{be16, be32}
-use Rattle.keys.specs.declared.refusal.Answer.the-variants.{Done}
+use Rattle.questions.specs.declared.refusal.Answer.the-variants.{Done}
 use denote.Ref.{now}
 use lib.ListN.{getD}
 use mathlib.Core.List.{List}

@@ -4,7 +4,7 @@ use native.Mathlib.Omega.{arith}
 use denote.Ref.{now}
 use borrow.Author.Tests.{not-true, not-false}
 use borrow.Author.Needs.{needs}
-use Rattle.keys.proofs.TestLaws.{both}
+use Rattle.questions.proofs.TestLaws.{both}
 use Rattle.schedule_table.specs.Schedule.{fromPlace, untilPlace}
 use Rattle.schedule_table.proofs.InputLaws.{other-names, other-life, other-from, other-until, field-is, next-is, end-is, read-fit, read-unfit}
 use Rattle.schedule_table.proofs.input.read.Statement.{statement}

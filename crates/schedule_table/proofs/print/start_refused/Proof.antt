@@ -5,7 +5,7 @@ use native.Mathlib.Omega.{arith}
 use lib.ListN.{length-set}
 use denote.Ref.{now}
 use borrow.Author.Needs.{needs}
-use Rattle.keys.specs.Settings.{lifeFits}
+use Rattle.questions.specs.Settings.{lifeFits}
 use Rattle.schedule_table.specs.declared.print.Cursor.{Cursor}
 use Rattle.schedule_table.specs.Schedule.{askedFits}
 use Rattle.keys.proofs.StoreLaws.{sets-front}

@@ -1,0 +1,3 @@
+pub mod ModemCallLaws
+pub mod HeadEndCallLaws
+pub mod ReadLaws

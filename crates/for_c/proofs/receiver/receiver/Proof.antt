@@ -1,0 +1,14 @@
+-- `for_c::receiver::receiver` meets its contract.
+use Rattle.for_c.proofs.ReadLaws.{not-head-end}
+use borrow.Author.Needs.{needs}
+use Rattle.for_c.proofs.receiver.receiver.Statement.{statement}
+use Rattle.for_c.proofs.receiver.receiver.Tie as tie
+
+returns : tie.Need-returns
+returns c = search needs
+
+returns-2 : tie.Need-returns-2
+returns-2 c = not-head-end (c .before .args .end) (c .if1 .left)
+
+pub receiver-spec : {M : Type 1} → statement M
+receiver-spec = tie.close (tie.spec returns returns-2)

@@ -1,0 +1,36 @@
+-- The head-end for C: what its calls hand back, with document 01's number for the answer.
+use mathlib.Core.Bool.{cond}
+use mathlib.Core.List.{List, []}
+use Prim.Native.Nat.{ℕ}
+use lib.Dec.{leb, eqb}
+use Rattle.questions.specs.declared.refusal.Refusal.the-variants.{OutOfLimits}
+use Rattle.questions.specs.Refusal.{numberOf, answerNumber}
+use Rattle.questions.specs.Settings.{noSettings}
+use Rattle.association.specs.declared.record.Assoc.{Assoc}
+use Rattle.headend_state.specs.declared.state.Called.{Called}
+use Rattle.headend_state.specs.declared.state.HeadEnd.{HeadEnd}
+use Rattle.headend_frames.specs.declared.frames.OpenedCall.{OpenedCall}
+use Rattle.headend_state.specs.State.{freshOf}
+use Rattle.headend_rules.specs.Calls.{receiveOf, receiveOctets}
+use Rattle.for_c.specs.declared.headend_values.HeadEndCall.{HeadEndCall}
+use Rattle.for_c.specs.declared.headend_values.HeadEndOpening.{HeadEndOpening}
+
+abbrev pub headEndCall : Called → HeadEndCall
+headEndCall c = record { number = answerNumber (c .answer); count = c .count; headend = c .state }
+
+-- A digest word other than 0 and 1 is out of the limits (1): nothing is changed or written
+abbrev pub receivedOf : HeadEnd → ℕ → Called → HeadEndCall
+receivedOf h digest c = cond (leb digest 1) (headEndCall c) (record { number = numberOf OutOfLimits; count = 0; headend = h })
+
+abbrev pub receiveCall : HeadEnd → List Assoc → ℕ → ℕ → List ℕ → List ℕ → ℕ → HeadEndCall
+receiveCall h xs address digest s key lent = receivedOf h digest (receiveOf h xs address (eqb digest 1) s key lent)
+
+abbrev pub receiveWritten : HeadEnd → List Assoc → ℕ → ℕ → List ℕ → List ℕ → ℕ → List ℕ
+receiveWritten h xs address digest s key lent = cond (leb digest 1) (receiveOctets h xs address (eqb digest 1) s key lent) []
+
+-- The head-end that the code asks, one out of its limits for such a word
+abbrev pub askedOf : HeadEnd → ℕ → HeadEnd
+askedOf h digest = cond (leb digest 1) h (freshOf noSettings)
+
+abbrev pub headEndOpening : OpenedCall → HeadEndOpening
+headEndOpening c = record { number = answerNumber (c .answer); width = c .width; count = c .count; headend = c .state }

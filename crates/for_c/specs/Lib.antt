@@ -1,0 +1,3 @@
+pub mod ModemCalls
+pub mod HeadEndCalls
+pub mod Read

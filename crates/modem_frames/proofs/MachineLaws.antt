@@ -1,0 +1,84 @@
+-- The machine that sealing and opening ask, question 13 of its pair, and the counts: what the code's parts say of the definitions.
+use mathlib.Core.Path.{_≡_, refl, _∙_, ap}
+use mathlib.Core.Bool.{Bool, true, false, _&&_, _||_, cond}
+use Prim.Native.Nat.{ℕ, _≤_, _<_}
+use native.Mathlib.Omega.{arith}
+use lib.Dec.{leb, ltb, eqb}
+use borrow.Author.Tests.{lt-ltb, le-ltb, eq-eqb, ne-eqb}
+use Rattle.keys.specs.declared.numbers.TekNumber.{TekNumber}
+use Rattle.questions.specs.declared.refusal.Answer.{Answer}
+use Rattle.questions.specs.declared.refusal.Answer.the-variants.{Done, Refused}
+use Rattle.questions.specs.declared.refusal.Refusal.{Refusal}
+use Rattle.questions.specs.declared.refusal.Refusal.the-variants.{OutOfLimits, WrongLength, UnknownSaid, NoKeyForFrame, NoKeyToSeal}
+use Rattle.keys.specs.Numbers.{tekInRange}
+use Rattle.keys.specs.Frame.{serves}
+use Rattle.keys.specs.Sealing.{oneMore}
+use Rattle.tek_machine.specs.declared.tek.Pair.{Pair}
+use Rattle.tek_machine.specs.declared.tek.Tek.{Tek}
+use Rattle.modem_steps.specs.declared.state.Modem.{Modem}
+use Rattle.modem_steps.specs.State.{noTek, slotAt}
+use Rattle.modem_steps.specs.Slots.{slotOfSaid}
+use Rattle.modem_receive.specs.Receive.{isKnown}
+use Rattle.modem_limits.specs.Limits.{modemFits}
+use Rattle.modem_frames.specs.Frames.{machineOf, sealAnswer, openAnswer, withCounts, countedBy, pairSeals, pairOpens, sealAsked, openAsked}
+use Rattle.modem_frames.specs.FrameCalled.{knownMachine}
+
+-- ---- the machine of a SAID
+module _ (m : Modem) (said i : ℕ) (ei : i ≡ slotOfSaid m said) where
+  pub machine-none : 4 ≤ i → noTek ≡ knownMachine m said
+  unfolding knownMachine
+  machine-none over = let past : 4 ≤ slotOfSaid m said = omega (arith, ei, over) in simp (le-ltb (slotOfSaid m said) 4 past)
+
+  pub machine-is : i < 4 → slotAt m i ≡ knownMachine m said
+  unfolding knownMachine
+  machine-is small =
+      let inside : slotOfSaid m said < 4 = omega (arith, ei, small) in
+      ap (slotAt m) ei ∙ simp (lt-ltb (slotOfSaid m said) 4 inside)
+
+pub machine-known : (m : Modem) (said : ℕ) → isKnown m said ≡ true → knownMachine m said ≡ machineOf m said
+unfolding knownMachine
+machine-known m said e = simp e
+
+-- ---- the answers do not depend on the machine of a SAID that is not known
+after-known : (b : Bool) (f : Tek → Bool) (t u : Tek) (q r : Refusal)
+    → cond b (cond (f (cond b t u)) Done (Refused q)) (Refused r) ≡ cond b (cond (f t) Done (Refused q)) (Refused r)
+after-known true f t u q r = refl
+after-known false f t u q r = refl
+
+after-here : (a b : Bool) (f : Tek → Bool) (t u : Tek) (q r : Refusal)
+    → cond (a && b) (cond (f (cond b t u)) Done (Refused q)) (Refused r) ≡ cond (a && b) (cond (f t) Done (Refused q)) (Refused r)
+after-here true b f t u q r = after-known b f t u q r
+after-here false b f t u q r = refl
+
+pub seal-asked : (m : Modem) (said tek vector : ℕ) → sealAsked m said (knownMachine m said) tek vector ≡ sealAnswer m said tek vector
+unfolding sealAsked sealAnswer knownMachine
+seal-asked m said tek vector =
+    ap (λ (a : Answer). cond (modemFits m && leb said 16383) (cond (leb 16 tek && leb 16 vector) a (Refused WrongLength)) (Refused OutOfLimits))
+    (after-known (isKnown m said) (λ t. pairSeals (m .clock) (t .pair)) (machineOf m said) noTek NoKeyToSeal UnknownSaid)
+
+pub open-asked : (m : Modem) (direction address said : ℕ) (number : TekNumber) (tek vector lent : ℕ)
+    → openAsked m direction address said number (knownMachine m said) tek vector lent ≡ openAnswer m direction address said number tek vector lent
+unfolding openAsked openAnswer knownMachine
+open-asked m direction address said number tek vector lent =
+    ap (λ (a : Answer). cond (modemFits m && eqb direction 1 && ltb address 281474976710656 && leb said 16383 && tekInRange number)
+    (cond (leb 16 tek && leb 16 vector && leb 216 lent) a (Refused WrongLength)) (Refused OutOfLimits))
+    (after-here (eqb address (m .address)) (isKnown m said) (λ t. pairOpens (m .clock) number (t .pair)) (machineOf m said) noTek NoKeyForFrame UnknownSaid)
+
+-- ---- question 13, and the counts
+pub opens-by : (clock : ℕ) (number : TekNumber) (p : Pair) (a b : Bool) → a ≡ serves clock number (p .older) → b ≡ serves clock number (p .newer)
+    → (eqb (p .held) 1 && (a || b)) ≡ pairOpens clock number p
+opens-by clock number p a b ea eb =
+    ap (λ (x : Bool). eqb (p .held) 1 && (x || b)) ea ∙ ap (λ (x : Bool). eqb (p .held) 1 && (serves clock number (p .older) || x)) eb
+
+module _ (n : ℕ) (m : Modem) (k : ℕ) where
+  pub counted-taken : n ≡ 0 → k ≡ oneMore (m .taken) → withCounts m k (m .refused) ≡ countedBy n m
+  unfolding countedBy
+  counted-taken e ek = rw (eq-eqb n 0 e) (ap (λ (x : ℕ). withCounts m x (m .refused)) ek)
+
+  pub counted-refused : (n ≡ 0 → ⊥) → (eqb n 10 || eqb n 13) ≡ true → k ≡ oneMore (m .refused) → withCounts m (m .taken) k ≡ countedBy n m
+  unfolding countedBy
+  counted-refused e is ek = rw (ne-eqb n 0 e, is) (ap (λ (x : ℕ). withCounts m (m .taken) x) ek)
+
+pub counted-not : (n : ℕ) (m : Modem) → (n ≡ 0 → ⊥) → (eqb n 10 || eqb n 13) ≡ false → m ≡ countedBy n m
+unfolding countedBy
+counted-not n m e is = rw (ne-eqb n 0 e, is) refl

@@ -1,0 +1,4 @@
+pub mod Apart
+pub mod Settings
+pub mod Refusal
+pub mod Questions

@@ -1,0 +1,32 @@
+-- Document 01's number of each refusal and of each answer ("The questions, in order").
+use mathlib.Core.Bool.{Bool, true, false}
+use Prim.Native.Nat.{ℕ}
+use Rattle.questions.specs.declared.refusal.Refusal.{Refusal}
+use Rattle.questions.specs.declared.refusal.Refusal.the-variants.{OutOfLimits, WrongLength, ClockOutOfOrder, NoFreePlace, NotNew, CutMessage, CodeNotReceived, BadAttribute, WrongAttributes, UnknownSaid, WrongIdentifier, DigestFails, NoKeyForFrame, NoKeyToSeal}
+use Rattle.questions.specs.declared.refusal.Answer.{Answer}
+use Rattle.questions.specs.declared.refusal.Answer.the-variants.{Done, Refused}
+
+abbrev pub numberOf : Refusal → ℕ
+numberOf OutOfLimits = 1
+numberOf WrongLength = 2
+numberOf ClockOutOfOrder = 3
+numberOf NoFreePlace = 4
+numberOf NotNew = 5
+numberOf CutMessage = 6
+numberOf CodeNotReceived = 7
+numberOf BadAttribute = 8
+numberOf WrongAttributes = 9
+numberOf UnknownSaid = 10
+numberOf WrongIdentifier = 11
+numberOf DigestFails = 12
+numberOf NoKeyForFrame = 13
+numberOf NoKeyToSeal = 14
+
+-- 0 where nothing is refused
+abbrev pub answerNumber : Answer → ℕ
+answerNumber Done = 0
+answerNumber (Refused r) = numberOf r
+
+abbrev pub isDone : Answer → Bool
+isDone Done = true
+isDone (Refused r) = false

@@ -1,0 +1,87 @@
+// What a call answers: done, or refused by one of the 14 questions, and document 01's number of each.
+ghost use mathlib.Core.Path.{_≡_};
+ghost use mathlib.Core.Bool.{cond};
+ghost use Rattle.questions.specs.declared.refusal.Answer.the-variants.{Refused};
+ghost use Rattle.questions.specs.Questions.{answerThen};
+ghost use Rattle.questions.specs.Refusal.{numberOf, answerNumber, isDone};
+
+pub enum Refusal {
+    OutOfLimits,
+    WrongLength,
+    ClockOutOfOrder,
+    NoFreePlace,
+    NotNew,
+    CutMessage,
+    CodeNotReceived,
+    BadAttribute,
+    WrongAttributes,
+    UnknownSaid,
+    WrongIdentifier,
+    DigestFails,
+    NoKeyForFrame,
+    NoKeyToSeal,
+}
+
+pub fn number(r: Refusal) -> u8
+    ensures { λ n. ⌜ n ≡ numberOf r ⌝ }
+{
+    match r {
+        Refusal::OutOfLimits => 1,
+        Refusal::WrongLength => 2,
+        Refusal::ClockOutOfOrder => 3,
+        Refusal::NoFreePlace => 4,
+        Refusal::NotNew => 5,
+        Refusal::CutMessage => 6,
+        Refusal::CodeNotReceived => 7,
+        Refusal::BadAttribute => 8,
+        Refusal::WrongAttributes => 9,
+        Refusal::UnknownSaid => 10,
+        Refusal::WrongIdentifier => 11,
+        Refusal::DigestFails => 12,
+        Refusal::NoKeyForFrame => 13,
+        Refusal::NoKeyToSeal => 14,
+    }
+}
+
+pub enum Answer {
+    Done,
+    Refused(Refusal),
+}
+
+pub fn answer_number(a: Answer) -> u8
+    ensures { λ n. ⌜ n ≡ answerNumber a ⌝ }
+{
+    match a {
+        Answer::Done => 0,
+        Answer::Refused(r) => number(r),
+    }
+}
+
+pub fn is_done(a: Answer) -> bool
+    ensures { λ r. ⌜ r ≡ isDone a ⌝ }
+{
+    match a {
+        Answer::Done => true,
+        Answer::Refused(_) => false,
+    }
+}
+
+// One question: the answer to those after it, or its refusal where it is not met.
+pub fn ask(met: bool, no: Refusal, later: Answer) -> Answer
+    ensures { λ r. ⌜ r ≡ cond met later (Refused no) ⌝ }
+{
+    if met {
+        return later;
+    }
+    Answer::Refused(no)
+}
+
+// The answer to questions that come first, or to those after them where nothing is refused.
+pub fn and_then(a: Answer, later: Answer) -> Answer
+    ensures { λ r. ⌜ r ≡ answerThen a later ⌝ }
+{
+    match a {
+        Answer::Done => later,
+        Answer::Refused(_) => a,
+    }
+}

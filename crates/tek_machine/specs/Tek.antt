@@ -1,0 +1,102 @@
+-- What an event does to a TEK machine (document 01, "Modem: TEK machine, one per SAID").
+use Prim.Native.Nat.{ℕ, _+_, _-_, _≤_}
+use mathlib.Core.Bool.{Bool, cond, _&&_, _||_, not}
+use lib.Dec.{eqb}
+use Rattle.keys.specs.declared.numbers.AkNumber.{AkNumber}
+use Rattle.keys.specs.declared.traffic.TrafficKey.{TrafficKey}
+use Rattle.keys.specs.Traffic.{noKey}
+use Rattle.wire.specs.declared.fields.Params.{Params}
+use Rattle.machines.specs.declared.timer.Timer.{Timer}
+use Rattle.tek_machine.specs.declared.tek.Pair.{Pair}
+use Rattle.tek_machine.specs.declared.tek.Tek.{Tek}
+use Rattle.tek_machine.specs.declared.tek.Request.{Request}
+use Rattle.tek_machine.specs.declared.tek.TekMoment.{TekMoment}
+use Rattle.tek_machine.specs.declared.tek.TekStep.{TekStep}
+use Rattle.machines.specs.Transitions.{B, D, E, blank, tekNext}
+use Rattle.machines.specs.Identifier.{nextIdentifier}
+use Rattle.machines.specs.Timers.{off, setAt}
+
+-- Each transition into B or E sends a Key Request
+abbrev pub sendsInto : ℕ → Bool
+sendsInto to = eqb to B || eqb to E
+
+-- A resend is a timeout; it keeps the Identifier, and every other request takes a new one
+abbrev pub takesNew : ℕ → ℕ → Bool
+takesNew event to = sendsInto to && not (eqb event 6)
+
+unfoldable pub counterAfter : ℕ → ℕ → ℕ → ℕ
+counterAfter event to counter = cond (takesNew event to) (nextIdentifier counter) counter
+
+unfoldable pub identifierAfter : ℕ → ℕ → Tek → TekMoment → ℕ
+identifierAfter event to t x = cond (takesNew event to) (nextIdentifier (x .counter)) (t .identifier)
+
+-- B and E set their wait, D sets refresh at now + newer life - grace, or now; every other timer is cleared
+unfoldable pub tekTimer : ℕ → TekMoment → Params → Timer
+tekTimer to x newer =
+    cond (eqb to B) (setAt (x .clock + x .operational))
+    (cond (eqb to E) (setAt (x .clock + x .rekey))
+    (cond (eqb to D) (setAt (x .clock + (newer .life - x .grace)))
+    off))
+
+-- ---- keys
+
+abbrev pub noPair : Pair
+noPair = record { held = 0; older = noKey; newer = noKey }
+
+-- A key of a Key Reply, with the deadline now + its life
+abbrev pub keyOf : ℕ → Params → TrafficKey
+keyOf clock p = record { number = p .number; deadline = clock + p .life; tek = p .tek .octets; vector = p .vector .octets }
+
+abbrev pub pairOf : ℕ → Params → Params → Pair
+pairOf clock older newer = record { held = 1; older = keyOf clock older; newer = keyOf clock newer }
+
+-- Events 1, 5 and 9 drop the keys; event 8 stores the pair
+unfoldable pub pairAfter : ℕ → Tek → ℕ → Params → Params → Pair
+pairAfter event t clock older newer =
+    cond (eqb event 1 || eqb event 5 || eqb event 9) noPair
+    (cond (eqb event 8) (pairOf clock older newer)
+    (t .pair))
+
+-- ---- messages
+abbrev pub nothing : Request
+nothing = record { code = 0; identifier = 0; ak = record { 0 = 0 }; said = 0 }
+
+-- A Key Request names the authorization key of the last Reply
+abbrev pub keyRequest : ℕ → AkNumber → ℕ → Request
+keyRequest identifier ak said = record { code = 7; identifier = identifier; ak = ak; said = said }
+
+unfoldable pub tekSends : ℕ → ℕ → Tek → TekMoment → Request
+tekSends event to t x = cond (sendsInto to) (keyRequest (identifierAfter event to t x) (x .ak) (t .said)) nothing
+
+-- ---- a transition, and a step
+unfoldable pub tekMoved : ℕ → ℕ → Tek → TekMoment → Params → Params → TekStep
+tekMoved event to t x older newer =
+    record {
+      machine = record {
+        said = t .said;
+        suite = t .suite;
+        state = to;
+        identifier = identifierAfter event to t x;
+        timer = tekTimer to x newer;
+        pair = pairAfter event t (x .clock) older newer;
+      };
+      counter = counterAfter event to (x .counter);
+      sends = tekSends event to t x;
+    }
+
+-- A blank changes and sends nothing
+abbrev pub tekStays : Tek → TekMoment → TekStep
+tekStays t x = record { machine = t; counter = x .counter; sends = nothing }
+
+-- The TEK-Parameters are used by event 8 alone
+unfoldable pub tekStepOf : Tek → ℕ → TekMoment → Params → Params → TekStep
+tekStepOf t event x older newer =
+    cond (eqb (tekNext event (t .state)) blank) (tekStays t x) (tekMoved event (tekNext event (t .state)) t x older newer)
+
+-- What a step asks so that no sum wraps
+pub record TekReady (x : TekMoment) (older newer : Params) : Type 0 where
+  pub clock-small : x .clock ≤ 1000000000000
+  pub operational-small : x .operational ≤ 600
+  pub rekey-small : x .rekey ≤ 600
+  pub older-small : older .life ≤ 604800
+  pub newer-small : newer .life ≤ 604800
