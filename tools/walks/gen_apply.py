@@ -19,9 +19,9 @@ thin("apply_held", "held", "receive_held", [], [LENT % "array-shown, array-home,
      right=("receiveOf " + RECEIVE, "overlay (out .now) (receiveOctets %s)" % RECEIVE))
 
 SEAL = "sealOf h records address said (length (tek .now)) (length (vector .now))"
-thin("apply_held", "held", "seal_held", [], [LENT % "array-shown, array-home, Part", OCTETS, "use Rattle.keys.specs.Sealing.{sealCalled}", "use Rattle.headend_rules.specs.FrameCalls.{sealOf}"],
+thin("apply_held", "held", "seal_held", [], [LENT % "array-shown, array-home, Part", OCTETS, "use Rattle.keys.specs.Sealing.{sealCalled}", "use Rattle.headend_frames.specs.FrameCalls.{sealOf}"],
      right=("sealCalled (%s)" % SEAL,) + written("(%s)" % SEAL, KEY))
 
 OPEN = "openOf h records direction address said number (length (tek .now)) (length (vector .now)) (length (invalid .now))"
-thin("apply_held", "held", "open_held", [], [LENT % "array-shown, array-home, Part", OCTETS, "use Rattle.headend_frames.specs.FrameCalled.{openCalled}", "use Rattle.headend_rules.specs.FrameCalls.{openOf}"],
+thin("apply_held", "held", "open_held", [], [LENT % "array-shown, array-home, Part", OCTETS, "use Rattle.headend_frames.specs.FrameCalled.{openCalled}", "use Rattle.headend_frames.specs.FrameCalls.{openOf}"],
      right=("openCalled (%s)" % OPEN,) + written("(%s)" % OPEN, KEY + [("invalid", ".invalid")]))

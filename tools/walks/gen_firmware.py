@@ -19,10 +19,10 @@ for fn, args in (("list", "h (records .now) address allowed listing (material .n
 KEY = [("tek", ".out .tek"), ("vector", ".out .vector")]
 SEAL = "sealOf h (records .now) address said (length (tek .now)) (length (vector .now))"
 relay("seal", ("sealCalled (%s)" % SEAL,) + written("(%s)" % SEAL, KEY), "frameSealed {got}",
-      [OCTETS, "use Rattle.keys.specs.Sealing.{sealCalled}", "use Rattle.headend_rules.specs.FrameCalls.{sealOf}", "use Rattle.for_c.specs.ModemCalls.{frameSealed}"])
+      [OCTETS, "use Rattle.keys.specs.Sealing.{sealCalled}", "use Rattle.headend_frames.specs.FrameCalls.{sealOf}", "use Rattle.for_c.specs.ModemCalls.{frameSealed}"])
 OPEN = "openOf h (records .now) direction address said {tekno} (length (tek .now)) (length (vector .now)) (length (invalid .now))"
 relay("open", ("openCalled (%s)" % OPEN,) + written("(%s)" % OPEN, KEY + [("invalid", ".invalid")]), "headEndOpening {got}",
-      [OCTETS, "use Rattle.headend_rules.specs.FrameCalls.{openOf}", "use Rattle.headend_frames.specs.FrameCalled.{openCalled}", HEAD % "headEndOpening"],
+      [OCTETS, "use Rattle.headend_frames.specs.FrameCalls.{openOf}", "use Rattle.headend_frames.specs.FrameCalled.{openCalled}", HEAD % "headEndOpening"],
       [("tekno", "record {{ 0 = number }}")])
 RECEIVE = "{quizzed} (records .now) address {one} (message .now) (key .now) (length (out .now))"
 ASKED = "h (records .now) address digest (message .now) (key .now) (length (out .now))"

@@ -4,7 +4,7 @@ ghost use lib.ListN.{length};
 ghost use Rattle.keys.specs.Octets.{overlay};
 ghost use Rattle.keys.specs.Sealing.{sealCalled};
 ghost use Rattle.headend_rules.specs.Calls.{listOf, listRecords, clockOf, clockRecords, receiveOf, receiveOctets};
-ghost use Rattle.headend_rules.specs.FrameCalls.{sealOf, openOf};
+ghost use Rattle.headend_frames.specs.FrameCalls.{sealOf, openOf};
 ghost use Rattle.headend_frames.specs.FrameCalled.{openCalled};
 use association::listing::Listing;
 use association::record::Assoc;

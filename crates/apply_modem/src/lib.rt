@@ -1,3 +1,3 @@
-// Both ends as one value, which step of plant's a call is (specs/Steps.antt), what it gives out (specs/Gave.antt) and what applying it hands back
-// (specs/Applied.antt); and the calls that reach the modem alone, with the modem's part of the clock.
+// The calls that reach the modem alone, applied to both ends by value, and the modem's part of the clock: each gives plant's step (`apply_rules`,
+// specs/Applied.antt), with every lent octet.
 pub mod modem_side;

@@ -24,7 +24,7 @@ use Rattle.headend_frames.specs.FrameCalled.{openCalled}
 use Rattle.headend_steps.specs.Listing.{listFor, listAnswer, listCalled}
 use Rattle.headend_steps.specs.Receive.{calledFor, writtenFor, receiveAnswer, reactionTo, receiveCalled, receiveWritten}
 use Rattle.headend_rules.specs.Calls as Head
-use Rattle.headend_rules.specs.FrameCalls as HeadFrames
+use Rattle.headend_frames.specs.FrameCalls as HeadFrames
 use Rattle.modem_steps.specs.declared.state.Modem.{Modem}
 use Rattle.modem_steps.specs.declared.state.Work.{Work}
 use Rattle.modem_steps.specs.declared.state.Called.{Called as ModemCalled}
@@ -32,7 +32,7 @@ use Rattle.modem_steps.specs.State.{starting}
 use Rattle.modem_steps.specs.Machine.{plainEvent}
 use Rattle.modem_steps.specs.Clock.{clocked}
 use Rattle.modem_receive.specs.Receive.{receiveQuestions, received, fieldsIn}
-use Rattle.modem_frames.specs.declared.frames.OpenedCall.{OpenedCall as ModemOpenedCall}
+use Rattle.modem_frame_rules.specs.declared.rules.OpenedCall.{OpenedCall as ModemOpenedCall}
 use Rattle.modem.specs.Calls as Mdm
 use Rattle.modem.specs.Calls.{resultOf, firstQuestions, clockQuestions, eventOf, clockOf, receiveOf}
 use Rattle.modem_frames.specs.Frames as ModemFrames
@@ -43,7 +43,6 @@ use Rattle.plant.specs.World.{list, clock, established, reauth, up, down, sealD
 use Rattle.plant.specs.Demand3.{clockWrote}
 use Rattle.apply_rules.specs.declared.ends.Ends.{Ends}
 use Rattle.apply_rules.specs.declared.ends.Applied.{Applied}
-use Rattle.apply_held.specs.declared.held.Changed.{Changed}
 use Rattle.apply_rules.specs.Steps.{worldOf, endsOf, stepBy}
 use Rattle.apply_rules.specs.Gave.{gaveOf}
 use Rattle.apply_rules.specs.Applied.{appliedOf, quietOf, refusedOf, clockedOf}
@@ -91,12 +90,14 @@ unfolding receiveOf
 message-count m s digest lent = modem-count (firstNo (firstQuestions m lent ++ receiveQuestions m s digest)) m (received m (fieldsIn s))
 
 -- ---- the head-end
-pub list-applied : (e : Ends) (address allowed : ℕ) (l : Listing) (m : List ℕ) (x : Changed) (r : Applied)
-    → r ≡ quietHead (x .called) (x .records) (e .modem)
-    → x ≡ record { called = Head.listOf (e .head) (e .records) address allowed l m; records = Head.listRecords (e .head) (e .records) address allowed l m }
+pub list-applied : (e : Ends) (address allowed : ℕ) (l : Listing) (m : List ℕ) (c : Called) (records : List Assoc) (r : Applied)
+    → r ≡ quietHead c records (e .modem)
+    → c ≡ Head.listOf (e .head) (e .records) address allowed l m
+    → records ≡ Head.listRecords (e .head) (e .records) address allowed l m
     → r ≡ appliedOf (worldOf e) (list address allowed l m)
-list-applied e address allowed l m x r p q =
-    p ∙ ap (λ (y : Changed). quietHead (y .called) (y .records) (e .modem)) q
+list-applied e address allowed l m c records r p q s =
+    p ∙ ap (λ (y : Called). quietHead y records (e .modem)) q
+    ∙ ap (λ (y : List Assoc). quietHead (Head.listOf (e .head) (e .records) address allowed l m) y (e .modem)) s
     ∙ ap (λ k. quietOf (answerNumber (Head.listOf (e .head) (e .records) address allowed l m .answer)) k (Head.listOf (e .head) (e .records) address allowed l m .state) (Head.listRecords (e .head) (e .records) address allowed l m) (e .modem))
     (listed-none (e .head) address allowed l _ _ _ _)
 
@@ -165,19 +166,16 @@ module _ (e : Ends) (t : ℕ) (m : List ℕ) (lent : ℕ) where
         ends = endsOf (clockedBy (a && b) (worldOf e) t m lent);
       }
 
-  abbrev changedOf : Changed
-  changedOf = record { called = headCalled; records = Head.clockRecords (e .head) (e .records) t m }
-
-  pub clock-head-refused : (x : Changed) (n : ℕ) (r : Applied) (out : List ℕ)
-      → r ≡ refusedOf n e → n ≡ answerNumber (x .called .answer) → x ≡ changedOf → isDone (x .called .answer) ≡ false
+  pub clock-head-refused : (c : Called) (n : ℕ) (r : Applied) (out : List ℕ)
+      → r ≡ refusedOf n e → n ≡ answerNumber (c .answer) → c ≡ headCalled → isDone (c .answer) ≡ false
       → (r ≡ appliedOf (worldOf e) (clock t m lent)) × (out ≡ overlay out (gaveOf (worldOf e) (clock t m lent) .sent))
-  clock-head-refused x n r out p q s d = (
-    p ∙ ap (λ k. refusedOf k e) (q ∙ ap (λ (y : Changed). answerNumber (y .called .answer)) s) ∙ ap (λ b. bothOf b (isDone (modemResult .called .answer))) (sym no),
+  clock-head-refused c n r out p q s d = (
+    p ∙ ap (λ k. refusedOf k e) (q ∙ ap (λ (y : Called). answerNumber (y .answer)) s) ∙ ap (λ b. bothOf b (isDone (modemResult .called .answer))) (sym no),
     ap (λ b. overlay out (clockWrote (b && isDone (modemResult .called .answer)) (worldOf e) t lent)) (sym no),
   )
     where
       no : isDone (headCalled .answer) ≡ false
-      no = sym (ap (λ (y : Changed). isDone (y .called .answer)) s) ∙ d
+      no = sym (ap (λ (y : Called). isDone (y .answer)) s) ∙ d
 
   modem-part : (b : Bool) → modemResult .called .count ≡ length (modemResult .written)
       → clockedOf b (modemResult .called) e (headCalled .state) (Head.clockRecords (e .head) (e .records) t m) ≡ bothOf true b
@@ -196,18 +194,20 @@ module _ (e : Ends) (t : ℕ) (m : List ℕ) (lent : ℕ) where
   unfolding clockOf
   clock-wrote = none-written (firstNo (firstQuestions (e .modem) lent ++ clockQuestions (e .modem) t)) (e .modem) (clocked (e .modem) t)
 
-  pub clock-both : (x : Changed) (r : Applied) (out after : List ℕ)
-      → r ≡ clockedWith (modemResult .called) e (x .called .state) (x .records) → after ≡ overlay out (modemResult .written) → x ≡ changedOf → isDone (x .called .answer) ≡ true
+  pub clock-both : (c : Called) (records : List Assoc) (r : Applied) (out after : List ℕ)
+      → r ≡ clockedWith (modemResult .called) e (c .state) records → after ≡ overlay out (modemResult .written)
+      → c ≡ headCalled → records ≡ Head.clockRecords (e .head) (e .records) t m → isDone (c .answer) ≡ true
       → (r ≡ appliedOf (worldOf e) (clock t m lent)) × (after ≡ overlay out (gaveOf (worldOf e) (clock t m lent) .sent))
-  clock-both x r out after p q s d = (
-    p ∙ ap (λ (y : Changed). clockedWith (modemResult .called) e (y .called .state) (y .records)) s ∙ modem-part (isDone (modemResult .called .answer)) clock-count
+  clock-both c records r out after p q s u d = (
+    p ∙ ap (λ (y : Called). clockedWith (modemResult .called) e (y .state) records) s
+        ∙ ap (clockedWith (modemResult .called) e (headCalled .state)) u ∙ modem-part (isDone (modemResult .called .answer)) clock-count
         ∙ ap (λ b. bothOf b (isDone (modemResult .called .answer))) (sym yes′),
     q ∙ ap (overlay out) (clock-wrote ∙ modem-wrote (isDone (modemResult .called .answer)))
         ∙ ap (λ b. overlay out (clockWrote (b && isDone (modemResult .called .answer)) (worldOf e) t lent)) (sym yes′),
   )
     where
       yes′ : isDone (headCalled .answer) ≡ true
-      yes′ = sym (ap (λ (y : Changed). isDone (y .called .answer)) s) ∙ d
+      yes′ = sym (ap (λ (y : Called). isDone (y .answer)) s) ∙ d
 
 -- ---- frames
 pub seal-down-applied : (e : Ends) (address said tek vector n : ℕ) (c : SealedCall)

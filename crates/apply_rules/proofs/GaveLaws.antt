@@ -8,7 +8,7 @@ use Rattle.questions.specs.declared.refusal.Answer.{Answer}
 use Rattle.questions.specs.declared.refusal.Answer.the-variants.{Done, Refused}
 use Rattle.keys.specs.Sealing.{Sealed}
 use Rattle.headend_rules.specs.Calls as Head
-use Rattle.headend_rules.specs.FrameCalls as HeadFrames
+use Rattle.headend_frames.specs.FrameCalls as HeadFrames
 use Rattle.modem_frames.specs.Frames as ModemFrames
 use Rattle.plant.specs.World.{World, Step, list, clock, established, reauth, up, down, sealDown, sealUp, openUp, openDown, Frame, frameIf, Opening, oneIf, stepOf}
 use Rattle.apply_rules.specs.Gave.{gaveOf}

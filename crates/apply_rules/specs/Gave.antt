@@ -6,7 +6,7 @@ use Prim.Native.Nat.{ℕ}
 use Rattle.keys.specs.declared.numbers.TekNumber.{TekNumber}
 use Rattle.keys.specs.Sealing.{KeyOut, noOut, Sealed}
 use Rattle.headend_rules.specs.Calls as Head
-use Rattle.headend_rules.specs.FrameCalls as HeadFrames
+use Rattle.headend_frames.specs.FrameCalls as HeadFrames
 use Rattle.modem_frames.specs.Frames as ModemFrames
 use Rattle.plant.specs.World.{World, Step, list, clock, established, reauth, up, down, sealDown, sealUp, openUp, openDown}
 use Rattle.plant.specs.Demand3.{modemWrote}

@@ -5,14 +5,14 @@ use mathlib.Core.Bool.{Bool, cond, _&&_, _||_, not}
 use lib.Dec.{eqb}
 use Rattle.keys.specs.declared.numbers.AkNumber.{AkNumber}
 use Rattle.machines.specs.declared.timer.Timer.{Timer}
-use Rattle.tek_machine.specs.declared.tek.Request.{Request}
+use Rattle.tek_parts.specs.declared.parts.Request.{Request}
 use Rattle.authorization_machine.specs.declared.authorization.Authorization.{Authorization}
 use Rattle.authorization_machine.specs.declared.authorization.AuthMoment.{AuthMoment}
 use Rattle.authorization_machine.specs.declared.authorization.AuthStep.{AuthStep}
 use Rattle.machines.specs.Transitions.{B, C, D, E, blank, authorizationNext}
 use Rattle.machines.specs.Identifier.{nextIdentifier}
 use Rattle.machines.specs.Timers.{off, setAt}
-use Rattle.tek_machine.specs.Tek.{nothing}
+use Rattle.tek_parts.specs.TekParts.{nothing}
 
 -- Entering B (B-B too), C-D and D-D by timeout send a Request; D-D by event 7 is the one transition into B or D that does not
 abbrev pub isPassive : ℕ → ℕ → Bool

@@ -7,9 +7,9 @@ use machines::timer::Timer;
 use machines::timer::cleared;
 use machines::timer::set_at;
 use machines::transitions::authorization_next;
-use tek_machine::tek::Request;
-use tek_machine::tek::less;
-use tek_machine::tek::no_request;
+use tek_parts::parts::Request;
+use tek_parts::parts::less;
+use tek_parts::parts::no_request;
 
 // `state` is 0 to 5 for A to F; `identifier` is that of its last Request; `ak` is the number of the last Reply's key.
 #[repr(C)]

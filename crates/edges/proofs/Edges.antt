@@ -5,7 +5,8 @@ use Rattle.wire.proofs.Vectors.{read-I6, number-103, number-107}
 use Rattle.tek_machine.specs.declared.tek.Tek.{Tek}
 use Rattle.tek_machine.specs.declared.tek.TekMoment.{TekMoment}
 use Rattle.machines.specs.Transitions.{C, D, F, nextIn, tekTransitions, authorizationTransitions}
-use Rattle.tek_machine.specs.Tek.{noPair, nothing, tekStays, tekStepOf, tekMoved, tekSends, identifierAfter, pairAfter}
+use Rattle.tek_parts.specs.TekParts.{noPair, nothing}
+use Rattle.tek_machine.specs.Tek.{tekStays, tekStepOf, tekMoved, tekSends, identifierAfter, pairAfter}
 use Rattle.authorization_machine.specs.declared.authorization.Authorization.{Authorization}
 use Rattle.authorization_machine.specs.declared.authorization.AuthMoment.{AuthMoment}
 use Rattle.authorization_machine.specs.Authorization.{authIdentifier, requestsOf, authMoved, authStepOf}

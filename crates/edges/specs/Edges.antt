@@ -16,7 +16,8 @@ use Rattle.machines.specs.Identifier.{nextIdentifier}
 use Rattle.authorization_machine.specs.declared.authorization.Authorization.{Authorization}
 use Rattle.authorization_machine.specs.declared.authorization.AuthMoment.{AuthMoment}
 use Rattle.authorization_machine.specs.Authorization.{authStepOf}
-use Rattle.tek_machine.specs.Tek.{noPair, nothing, tekStays, tekStepOf}
+use Rattle.tek_parts.specs.TekParts.{noPair, nothing}
+use Rattle.tek_machine.specs.Tek.{tekStays, tekStepOf}
 use Rattle.machines.specs.Transitions.{C, D, F, authorizationNext}
 use Rattle.association.specs.declared.record.Assoc.{Assoc}
 use Rattle.association.specs.Roll.{rolledOf}

@@ -5,7 +5,7 @@ ghost use lib.ListN.{length};
 ghost use Rattle.keys.specs.Octets.{overlay};
 ghost use Rattle.keys.specs.Sealing.{sealCalled};
 ghost use Rattle.headend_rules.specs.Calls.{newOf, listOf, listRecords, clockOf, clockRecords};
-ghost use Rattle.headend_rules.specs.FrameCalls.{sealOf, openOf};
+ghost use Rattle.headend_frames.specs.FrameCalls.{sealOf, openOf};
 ghost use Rattle.headend_frames.specs.FrameCalled.{openCalled};
 ghost use Rattle.for_c.specs.ModemCalls.{frameSealed};
 ghost use Rattle.for_c.specs.HeadEndCalls.{headEndCall, receiveCall, receiveWritten, headEndOpening};

@@ -7,7 +7,7 @@ use lib.ListN.{length}
 use Rattle.keys.specs.Octets.{overlay}
 use Rattle.keys.specs.declared.sealing.SealedCall.{SealedCall}
 use Rattle.modem_steps.specs.declared.state.Modem.{Modem}
-use Rattle.modem_frames.specs.declared.frames.OpenedCall.{OpenedCall}
+use Rattle.modem_frame_rules.specs.declared.rules.OpenedCall.{OpenedCall}
 use Rattle.modem.specs.Calls.{receiveOf}
 use Rattle.for_c.specs.declared.modem_values.FrameSealed.{FrameSealed}
 use Rattle.for_c.specs.declared.modem_values.ModemOpening.{ModemOpening}

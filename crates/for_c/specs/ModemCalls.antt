@@ -8,7 +8,7 @@ use Rattle.questions.specs.declared.refusal.Refusal.the-variants.{OutOfLimits}
 use Rattle.questions.specs.Refusal.{numberOf, answerNumber}
 use Rattle.modem_steps.specs.declared.state.Called.{Called}
 use Rattle.modem_steps.specs.declared.state.Modem.{Modem}
-use Rattle.modem_frames.specs.declared.frames.OpenedCall.{OpenedCall}
+use Rattle.modem_frame_rules.specs.declared.rules.OpenedCall.{OpenedCall}
 use Rattle.modem.specs.Calls.{receiveOf}
 use Rattle.for_c.specs.declared.modem_values.ModemCall.{ModemCall}
 use Rattle.for_c.specs.declared.modem_values.FrameSealed.{FrameSealed}

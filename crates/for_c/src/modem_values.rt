@@ -2,7 +2,7 @@
 ghost use mathlib.Core.Path.{_≡_};
 ghost use Rattle.for_c.specs.ModemCalls.{modemCall, frameSealed, modemOpening};
 use keys::sealing::SealedCall;
-use modem_frames::frames::OpenedCall;
+use modem_frame_rules::rules::OpenedCall;
 use modem_steps::state::Called;
 use modem_steps::state::Modem;
 use questions::refusal::answer_number;

@@ -5,7 +5,7 @@ ghost use lib.ListN.{length};
 ghost use Rattle.keys.specs.Octets.{overlay};
 ghost use Rattle.keys.specs.Sealing.{sealCalled};
 ghost use Rattle.headend_frames.specs.FrameCalled.{openCalled};
-ghost use Rattle.headend_rules.specs.FrameCalls.{sealOf, openOf};
+ghost use Rattle.headend_frames.specs.FrameCalls.{sealOf, openOf};
 use association::record::Assoc;
 use headend_frames::frames::OpenedCall;
 use headend_frames::frames::open_called;

@@ -10,7 +10,8 @@ use Rattle.headend_state.specs.declared.state.HeadEnd.{HeadEnd}
 use Rattle.headend_state.specs.declared.entries.Known.{Known}
 use Rattle.headend_state.specs.Authorization.{isActive}
 use Rattle.headend_state.specs.Entries.{lists}
-use Rattle.headend_answers.specs.Answers.{reject, invalid, keyReject, keyReply, keyAnswer, replyAnswer, keysAfter, stateAfter, requestAnswer, requestState, requestReaction, reactionOf}
+use Rattle.answer_fields.specs.AnswerFields.{reject, invalid, keyReject, keyReply, replyAnswer}
+use Rattle.headend_answers.specs.Answers.{keyAnswer, keysAfter, stateAfter, requestAnswer, requestState, requestReaction, reactionOf}
 
 -- ---- Key Request
 module _ (clock : ℕ) (k : Known) (a : Assoc) (digest : Bool) (f : Fields) where

@@ -37,7 +37,8 @@ use Rattle.headend_state.specs.Entries.{knownOf}
 use Rattle.headend_limits.specs.Limits.{headFits as stateFits}
 use Rattle.headend_limits.specs.Search.{recordsFit}
 use Rattle.headend_steps.specs.Receive.{answerOctets, Writable}
-use Rattle.headend_frames.specs.Frames.{isOwn, heldSuits, frameFits, sealAnswer, openAnswer, openingIn, countedBy, invalidFields, invalidOctets, HeadOpened, openedFor}
+use Rattle.headend_frame_questions.specs.FrameQuestions.{isOwn, heldSuits, frameFits, sealAnswer, openAnswer, countedBy}
+use Rattle.headend_frames.specs.Frames.{openingIn, invalidFields, invalidOctets, HeadOpened, openedFor}
 use Rattle.headend_frames.specs.FrameCalled.{openCalled, Openable}
 
 -- ---- what the passed questions say

@@ -1,2 +1,3 @@
 pub mod Frames
 pub mod FrameCalled
+pub mod FrameCalls

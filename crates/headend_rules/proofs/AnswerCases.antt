@@ -24,7 +24,8 @@ use Rattle.headend_answers.specs.declared.answers.Reaction.{Reaction}
 use Rattle.headend_state.specs.Authorization.{isActive, withKey, keysFor}
 use Rattle.headend_state.specs.Entries.{lists, listsSuite, knownOf, withEntry}
 use Rattle.headend_limits.specs.Search.{halfIn, ofRequest}
-use Rattle.headend_answers.specs.Answers.{reject, invalid, keyReject, keyReply, replyAnswer, keyAnswer, keysAfter, withKeys, stateAfter, requestReaction}
+use Rattle.answer_fields.specs.AnswerFields.{reject, invalid, keyReject, keyReply, replyAnswer}
+use Rattle.headend_answers.specs.Answers.{keyAnswer, keysAfter, withKeys, stateAfter, requestReaction}
 use Rattle.headend_steps.specs.Receive.{answerOctets}
 use Rattle.headend_answers.proofs.AnswersLaws.{key-unlisted, key-inactive, key-digest, key-foreign, key-granted, request-unlisted, request-barred, request-allowed, react-request, react-key, react-none}
 use Rattle.headend_steps.proofs.AnswerFits.{suits-reply}

@@ -24,7 +24,8 @@ use Rattle.headend_state.specs.declared.entries.Known.{Known}
 use Rattle.headend_answers.specs.declared.answers.Reaction.{Reaction}
 use Rattle.headend_limits.specs.Search.{outOfLimits, ofRequest}
 use Rattle.headend_state.specs.Entries.{knownOf}
-use Rattle.headend_answers.specs.Answers.{reject, replyAnswer, keyReply, keysAfter, keyAnswer, requestAnswer, requestReaction, reactionOf}
+use Rattle.answer_fields.specs.AnswerFields.{reject, replyAnswer, keyReply}
+use Rattle.headend_answers.specs.Answers.{keysAfter, keyAnswer, requestAnswer, requestReaction, reactionOf}
 use Rattle.headend_steps.specs.Receive.{answerOctets, receiveAnswer, calledFor, reactionTo, receiveCalled}
 use Rattle.headend_steps.proofs.AskedLaws.{ReceiveAsked, receive-asked}
 use Rattle.headend_steps.proofs.AnswerFields.{key-reply-most}

@@ -11,5 +11,3 @@ pub mod MintLaws
 pub mod FoundLaws
 pub mod ReplyLaws
 pub mod SecondLaws
-pub mod FrameLaws
-pub mod FrameAnswers

@@ -23,7 +23,8 @@ use Rattle.headend_state.specs.declared.entries.Known.{Known}
 use Rattle.headend_answers.specs.declared.answers.Reaction.{Reaction}
 use Rattle.headend_state.specs.Entries.{knownOf}
 use Rattle.headend_limits.specs.Search.{outOfLimits, ofRequest}
-use Rattle.headend_answers.specs.Answers.{replyAnswer, keyReply, keyAnswer, reject, keysAfter, requestAnswer, reactionOf}
+use Rattle.answer_fields.specs.AnswerFields.{replyAnswer, keyReply, reject}
+use Rattle.headend_answers.specs.Answers.{keyAnswer, keysAfter, requestAnswer, reactionOf}
 use Rattle.headend_steps.specs.Receive.{receiveAnswer, answerOctets, calledFor, writtenFor, reactionTo, receiveCalled, receiveWritten}
 use Rattle.headend_steps.proofs.AskedLaws.{receive-asked}
 use Rattle.headend_steps.proofs.AnswerFits.{Replied, by-key-answer, reply-is, suits-reply}

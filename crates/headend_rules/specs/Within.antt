@@ -11,7 +11,7 @@ use Rattle.headend_state.specs.declared.state.HeadEnd.{HeadEnd}
 use Rattle.headend_state.specs.Entries.{knownOf, listsSuite}
 use Rattle.headend_limits.specs.Limits.{headFits}
 use Rattle.headend_limits.specs.Search.{outOfLimits}
-use Rattle.headend_frames.specs.Frames.{isOwn}
+use Rattle.headend_frame_questions.specs.FrameQuestions.{isOwn}
 
 -- The state is within its limits, no record in use is out of them, and all records in use are lent
 pub record Within (h : HeadEnd) (xs : List Assoc) : Type 0 where

@@ -30,7 +30,7 @@ use Rattle.association.proofs.RecordLaws.{InLimits}
 use Rattle.headend_state.specs.declared.state.AuthKeys.{AuthKeys}
 use Rattle.headend_state.specs.Authorization.{lifeLeft}
 use Rattle.headend_state.specs.Entries.{saidAt}
-use Rattle.headend_answers.specs.Answers.{reject, invalid, keyReject, descriptorAt, replyAnswer, paramsAt, keyReply}
+use Rattle.answer_fields.specs.AnswerFields.{reject, invalid, keyReject, descriptorAt, replyAnswer, paramsAt, keyReply}
 use Rattle.headend_limits.proofs.ListingLaws.{ListingIn, by-four}
 
 -- ---- answers with an error

@@ -30,7 +30,8 @@ use Rattle.headend_state.specs.Authorization.{newestNumber, keepIf, activeOf, h
 use Rattle.headend_state.specs.Entries.{lists, listsSuite, knownOf}
 use Rattle.headend_limits.specs.Limits.{headFits}
 use Rattle.headend_limits.specs.Search.{halfIn}
-use Rattle.headend_answers.specs.Answers.{reject, invalid, keyReject, replyAnswer, keyReply, keyAnswer, keysAfter, requestAnswer, requestReaction, reactionOf, ReactionFits}
+use Rattle.answer_fields.specs.AnswerFields.{reject, invalid, keyReject, replyAnswer, keyReply}
+use Rattle.headend_answers.specs.Answers.{keyAnswer, keysAfter, requestAnswer, requestReaction, reactionOf, ReactionFits}
 use Rattle.headend_steps.specs.Receive.{recordSuits, receiveAnswer, reactionTo, Writable}
 use Rattle.headend_limits.proofs.ListingLaws.{ListingIn}
 use Rattle.headend_limits.proofs.LimitsLaws.{countable, newest-life, entry-facts, head-facts, known-in}

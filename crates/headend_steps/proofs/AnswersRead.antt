@@ -29,7 +29,8 @@ use Rattle.headend_state.specs.declared.state.AuthKeys.{AuthKeys}
 use Rattle.headend_state.specs.declared.state.HeadEnd.{HeadEnd}
 use Rattle.headend_state.specs.declared.entries.Known.{Known}
 use Rattle.headend_state.specs.Entries.{knownOf}
-use Rattle.headend_answers.specs.Answers.{errorAnswer, reject, invalid, keyReject, replyAnswer, keyReply, keyAnswer, keysAfter, requestAnswer, requestReaction, reactionOf}
+use Rattle.answer_fields.specs.AnswerFields.{errorAnswer, reject, invalid, keyReject, replyAnswer, keyReply}
+use Rattle.headend_answers.specs.Answers.{keyAnswer, keysAfter, requestAnswer, requestReaction, reactionOf}
 use Rattle.headend_steps.specs.Receive.{answerOctets, receiveAnswer, reactionTo, receiveCalled, receiveWritten}
 use Rattle.headend_steps.proofs.AnswerFields.{key-reply-fits}
 use Rattle.headend_steps.proofs.AnswerFits.{by-key-answer, reaction-writable}

@@ -11,11 +11,11 @@ use Rattle.text.specs.Decimal.{numberAt}
 use Rattle.line_fields.specs.declared.fields.Field.{Field}
 use Rattle.line_fields.specs.declared.fields.Num.{Num}
 use Rattle.line_fields.specs.declared.fields.Cuts.{Cuts}
-use Rattle.line_fields.specs.declared.hex.Octets.{Octets}
+use Rattle.line_fields.specs.declared.octets.Octets.{Octets}
 use Rattle.line_fields.specs.declared.listing.Pair.{Pair}
 use Rattle.line_fields.specs.Fields.{fieldsOf, isNumber, numberIn, isFlag}
 use Rattle.line_fields.specs.Places.{Inside, Cut, textOf, fieldAt, afterField, cutsOf, numOf, octetsFor, pairAt, flagOf}
-use Rattle.line_fields.specs.Hex.{allHex, isOctets}
+use Rattle.hex_text.specs.Hex.{allHex, isOctets}
 use Rattle.line_fields.proofs.FieldLaws.{cut-holds}
 
 -- ---- the number that a field says

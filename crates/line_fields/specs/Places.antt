@@ -9,11 +9,11 @@ use Rattle.association.specs.declared.listing.Listing.{Listing}
 use Rattle.line_fields.specs.declared.fields.Field.{Field}
 use Rattle.line_fields.specs.declared.fields.Num.{Num}
 use Rattle.line_fields.specs.declared.fields.Cuts.{Cuts}
-use Rattle.line_fields.specs.declared.hex.Octets.{Octets}
+use Rattle.line_fields.specs.declared.octets.Octets.{Octets}
 use Rattle.line_fields.specs.declared.listing.Pair.{Pair}
 use Rattle.line_fields.specs.declared.listing.Pairs.{Pairs}
 use Rattle.line_fields.specs.Fields.{fieldsOf, field, isNumber, numberIn, isFlag}
-use Rattle.line_fields.specs.Hex.{isOctets}
+use Rattle.hex_text.specs.Hex.{isOctets}
 use Rattle.association.specs.Listing.{noListing}
 use Rattle.line_fields.specs.Listing.{wordIn, isPairs, listingIn}
 

@@ -13,7 +13,7 @@ use Rattle.questions.proofs.AnswerLaws.{done-met}
 use Rattle.wire.specs.declared.fields.Fields.{Fields}
 use Rattle.wire.specs.declared.fields.Params.{Params}
 use Rattle.wire.specs.Fields.{noParams}
-use Rattle.tek_machine.specs.declared.tek.Request.{Request}
+use Rattle.tek_parts.specs.declared.parts.Request.{Request}
 use Rattle.machines.specs.Transitions.{D, blank, authorizationNext}
 use Rattle.modem_steps.specs.declared.state.Modem.{Modem}
 use Rattle.modem_steps.specs.declared.state.Work.{Work}

@@ -16,13 +16,14 @@ use Rattle.wire.specs.declared.fields.Params.{Params}
 use Rattle.wire.proofs.HoldsLaws.{never}
 use Rattle.authorization_machine.specs.declared.authorization.Authorization.{Authorization}
 use Rattle.authorization_machine.specs.declared.authorization.AuthMoment.{AuthMoment}
-use Rattle.tek_machine.specs.declared.tek.Pair.{Pair}
+use Rattle.tek_parts.specs.declared.parts.Pair.{Pair}
 use Rattle.tek_machine.specs.declared.tek.Tek.{Tek}
 use Rattle.tek_machine.specs.declared.tek.TekMoment.{TekMoment}
 use Rattle.machines.specs.declared.timer.Timer.{Timer}
 use Rattle.machines.specs.Transitions.{Transition, A, B, C, D, E, F, blank, nextIn, authorizationTransitions, tekTransitions, authorizationNext, tekNext}
 use Rattle.machines.specs.Timers.{off, setAt}
-use Rattle.tek_machine.specs.Tek.{noPair, pairOf, pairAfter, tekTimer, tekMoved, tekStays, tekStepOf}
+use Rattle.tek_parts.specs.TekParts.{noPair, pairOf}
+use Rattle.tek_machine.specs.Tek.{pairAfter, tekTimer, tekMoved, tekStays, tekStepOf}
 use Rattle.authorization_machine.specs.Authorization.{isPassive, authTimer, authMoved, authStays, authStepOf, AuthReady}
 use Rattle.modem_limits.specs.Limits.{timerFits, keyZero, authorizationFits, pairHeldFits, longestWait, tekFits}
 use Rattle.modem_limits.proofs.LimitsLaws.{tek-in, tek-by, auth-in, auth-by}

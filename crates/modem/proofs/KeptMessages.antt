@@ -25,7 +25,7 @@ use Rattle.wire.specs.Limits.{headFits}
 use Rattle.wire.proofs.FieldsFit.{pair-ok}
 use Rattle.wire.proofs.PartsWritten.{PairFit}
 use Rattle.machines.specs.Transitions.{D, blank, authorizationNext}
-use Rattle.tek_machine.specs.Tek.{pairOf}
+use Rattle.tek_parts.specs.TekParts.{pairOf}
 use Rattle.modem_steps.specs.declared.state.Modem.{Modem}
 use Rattle.modem_steps.specs.declared.state.Work.{Work}
 use Rattle.modem_steps.specs.State.{slotAt, starting, freshOf}

@@ -17,7 +17,8 @@ use Rattle.wire.proofs.HoldsLaws.{never}
 use Rattle.tek_machine.specs.declared.tek.Tek.{Tek}
 use Rattle.machines.specs.Transitions.{D}
 use Rattle.machines.specs.Timers.{isDue}
-use Rattle.tek_machine.specs.Tek.{pairOf, tekStepOf}
+use Rattle.tek_parts.specs.TekParts.{pairOf}
+use Rattle.tek_machine.specs.Tek.{tekStepOf}
 use Rattle.authorization_machine.specs.Authorization.{AuthReady}
 use Rattle.modem_steps.specs.declared.state.Modem.{Modem}
 use Rattle.modem_steps.specs.declared.state.Work.{Work}

@@ -20,12 +20,13 @@ use Rattle.wire.proofs.MessageAnswers.{answer-done}
 use Rattle.authorization_machine.specs.declared.authorization.Authorization.{Authorization}
 use Rattle.authorization_machine.specs.declared.authorization.AuthMoment.{AuthMoment}
 use Rattle.authorization_machine.specs.declared.authorization.AuthStep.{AuthStep}
-use Rattle.tek_machine.specs.declared.tek.Request.{Request}
+use Rattle.tek_parts.specs.declared.parts.Request.{Request}
 use Rattle.tek_machine.specs.declared.tek.Tek.{Tek}
 use Rattle.tek_machine.specs.declared.tek.TekMoment.{TekMoment}
 use Rattle.tek_machine.specs.declared.tek.TekStep.{TekStep}
 use Rattle.machines.specs.Transitions.{B, D, E, blank, nextIn, authorizationTransitions, tekTransitions, authorizationNext, tekNext}
-use Rattle.tek_machine.specs.Tek.{nothing, keyRequest, counterAfter, identifierAfter, tekSends, tekMoved, tekStays, tekStepOf}
+use Rattle.tek_parts.specs.TekParts.{nothing, counterAfter}
+use Rattle.tek_machine.specs.Tek.{keyRequest, identifierAfter, tekSends, tekMoved, tekStays, tekStepOf}
 use Rattle.authorization_machine.specs.Authorization.{authIdentifier, authCounter, requestsOf, authMoved, authStays, authStepOf}
 use Rattle.modem_steps.specs.declared.state.Modem.{Modem}
 use Rattle.modem_steps.specs.declared.state.Work.{Work}

@@ -12,7 +12,7 @@ use borrow.Author.Tests.{lt-leb}
 use Rattle.keys.specs.declared.numbers.AkNumber.{AkNumber}
 use Rattle.wire.specs.declared.fields.Params.{Params}
 use Rattle.wire.specs.Fields.{noParams}
-use Rattle.tek_machine.specs.declared.tek.Request.{Request}
+use Rattle.tek_parts.specs.declared.parts.Request.{Request}
 use Rattle.machines.specs.Timers.{isDue}
 use Rattle.tek_machine.specs.Tek.{tekStepOf}
 use Rattle.authorization_machine.specs.Authorization.{authStepOf}

@@ -18,11 +18,12 @@ use Rattle.wire.specs.Limits.{headFits, keyOctetsZero, paramsZero, descriptorZe
 use Rattle.wire.specs.Writing.{itemsOfType, itemsOfTypes, itemsOf, message, messageOf}
 use Rattle.authorization_machine.specs.declared.authorization.Authorization.{Authorization}
 use Rattle.authorization_machine.specs.declared.authorization.AuthMoment.{AuthMoment}
-use Rattle.tek_machine.specs.declared.tek.Request.{Request}
+use Rattle.tek_parts.specs.declared.parts.Request.{Request}
 use Rattle.tek_machine.specs.declared.tek.Tek.{Tek}
 use Rattle.tek_machine.specs.declared.tek.TekMoment.{TekMoment}
 use Rattle.machines.specs.Transitions.{B, blank, tekNext, authorizationNext}
-use Rattle.tek_machine.specs.Tek.{nothing, keyRequest, sendsInto, identifierAfter, tekSends, tekMoved, tekStays, tekStepOf}
+use Rattle.tek_parts.specs.TekParts.{nothing, sendsInto}
+use Rattle.tek_machine.specs.Tek.{keyRequest, identifierAfter, tekSends, tekMoved, tekStays, tekStepOf}
 use Rattle.authorization_machine.specs.Authorization.{requestsInto, authIdentifier, informsOf, requestsOf, authMoved, authStays, authStepOf}
 use Rattle.modem_steps.specs.declared.state.Out.{Out}
 use Rattle.modem_steps.specs.State.{noOut, pushed}

@@ -17,9 +17,9 @@ use Rattle.questions.proofs.TestLaws.{both}
 use Rattle.wire.specs.declared.fields.Fields.{Fields}
 use Rattle.wire.specs.declared.fields.Receiver.the-variants.{Modem as AtModem}
 use Rattle.wire.specs.Messages.{messageAnswer}
-use Rattle.tek_machine.specs.declared.tek.Pair.{Pair}
+use Rattle.tek_parts.specs.declared.parts.Pair.{Pair}
 use Rattle.tek_machine.specs.declared.tek.Tek.{Tek}
-use Rattle.tek_machine.specs.Tek.{pairOf}
+use Rattle.tek_parts.specs.TekParts.{pairOf}
 use Rattle.modem_steps.specs.declared.state.Modem.{Modem}
 use Rattle.modem_steps.specs.declared.state.Work.{Work}
 use Rattle.modem_steps.specs.State.{withClock, slotAt, starting}

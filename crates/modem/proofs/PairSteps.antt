@@ -17,18 +17,20 @@ use Rattle.wire.specs.declared.fields.Params.{Params}
 use Rattle.wire.specs.Fields.{noParams}
 use Rattle.wire.proofs.HoldsLaws.{never}
 use Rattle.authorization_machine.specs.declared.authorization.Authorization.{Authorization}
-use Rattle.tek_machine.specs.declared.tek.Pair.{Pair}
+use Rattle.tek_parts.specs.declared.parts.Pair.{Pair}
 use Rattle.tek_machine.specs.declared.tek.Tek.{Tek}
 use Rattle.tek_machine.specs.declared.tek.TekMoment.{TekMoment}
 use Rattle.tek_machine.specs.declared.tek.TekStep.{TekStep}
 use Rattle.machines.specs.Transitions.{A, D, blank, authorizationNext, tekNext}
 use Rattle.machines.specs.Timers.{isDue}
-use Rattle.tek_machine.specs.Tek.{noPair, pairOf, pairAfter, tekMoved, tekStays, tekStepOf}
+use Rattle.tek_parts.specs.TekParts.{noPair, pairOf}
+use Rattle.tek_machine.specs.Tek.{pairAfter, tekMoved, tekStays, tekStepOf}
 use Rattle.modem_steps.specs.declared.state.Modem.{Modem}
 use Rattle.modem_steps.specs.declared.state.Work.{Work}
 use Rattle.modem_steps.specs.State.{withMachines, withClock, pastTek, slotAt, starting, freshOf}
 use Rattle.modem_steps.specs.Slots.{tekMoment, steppedAt, toldReply, told, toldAll, slotOfSaid, slotAsking}
-use Rattle.modem_steps.specs.Relist.{descriptorAt, lists, emptied, placed, appended, keptIf, keptOne, keptTo, freshTek, startedIf, startedOne, startedTo, listedAnew, relisted}
+use Rattle.relisting.specs.Listed.{descriptorAt, lists}
+use Rattle.modem_steps.specs.Relist.{emptied, placed, appended, keptIf, keptOne, keptTo, freshTek, startedIf, startedOne, startedTo, listedAnew, relisted}
 use Rattle.modem_steps.specs.Machine.{authStepped, authTold, plainEvent}
 use Rattle.modem_events.specs.Events.{replied, rejectEvent, rejected, pendedIf, invalidated}
 use Rattle.modem_steps.specs.Clock.{authTimerEvent, tekTimerEvent, authFired, slotFired, slotsFired, clocked}

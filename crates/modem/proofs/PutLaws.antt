@@ -11,8 +11,8 @@ use lib.Seq.{sets, sets-eq, take-all, take-suc, drop-drop}
 use borrow.Author.Tests.{le-leb}
 use borrow.Rule.Slice.PartMut.{putMid, midOf}
 use Rattle.keys.specs.Octets.{overlay}
-use Rattle.tek_machine.specs.declared.tek.Request.{Request}
-use Rattle.tek_machine.specs.Tek.{nothing}
+use Rattle.tek_parts.specs.declared.parts.Request.{Request}
+use Rattle.tek_parts.specs.TekParts.{nothing}
 use Rattle.wire.specs.declared.fields.Fields.{Fields}
 use Rattle.wire.specs.declared.fields.Writing.{Writing}
 use Rattle.wire.specs.Writing.{messageOf, noDigest, writeQuestions, writtenOf, writeOf}

@@ -16,7 +16,8 @@ use Rattle.tek_machine.specs.declared.tek.Tek.{Tek}
 use Rattle.machines.specs.Transitions.{A}
 use Rattle.modem_steps.specs.declared.state.Modem.{Modem}
 use Rattle.modem_steps.specs.State.{slotAt}
-use Rattle.modem_steps.specs.Relist.{descriptorAt, hasAt, lists, freshTek}
+use Rattle.relisting.specs.Listed.{descriptorAt, hasAt, lists}
+use Rattle.modem_steps.specs.Relist.{freshTek}
 use Rattle.modem_limits.specs.Limits.{saidsOfTeks}
 use Rattle.modem_limits.proofs.LimitsLaws.{Apart}
 use Rattle.modem.proofs.DifferLaws.{Missing, Differ, differ-snoc, no-longer, none-missing, each-append, member-front}

@@ -12,12 +12,12 @@ use Rattle.wire.specs.declared.fields.Fields.{Fields}
 use Rattle.wire.specs.Fields.{noParams}
 use Rattle.wire.specs.Messages.{isNone}
 use Rattle.wire.proofs.HoldsLaws.{never}
-use Rattle.tek_machine.specs.declared.tek.Request.{Request}
+use Rattle.tek_parts.specs.declared.parts.Request.{Request}
 use Rattle.tek_machine.specs.declared.tek.Tek.{Tek}
 use Rattle.tek_machine.specs.declared.tek.TekMoment.{TekMoment}
 use Rattle.tek_machine.specs.declared.tek.TekStep.{TekStep}
 use Rattle.machines.specs.Transitions.{B, C, D, blank, nextIn, authorizationTransitions}
-use Rattle.tek_machine.specs.Tek.{nothing}
+use Rattle.tek_parts.specs.TekParts.{nothing}
 use Rattle.authorization_machine.specs.declared.authorization.Authorization.{Authorization}
 use Rattle.authorization_machine.specs.declared.authorization.AuthMoment.{AuthMoment}
 use Rattle.authorization_machine.specs.declared.authorization.AuthStep.{AuthStep}
@@ -26,7 +26,8 @@ use Rattle.modem_steps.specs.declared.state.Modem.{Modem}
 use Rattle.modem_steps.specs.declared.state.Work.{Work}
 use Rattle.modem_steps.specs.State.{pastTek, pushed, starting}
 use Rattle.modem_steps.specs.Slots.{firstSlot, slotOfSaid}
-use Rattle.modem_steps.specs.Relist.{descriptorAt, emptied, keptTo, startedIf, startedOne, startedTo, freshTek, listedAnew, relisted}
+use Rattle.relisting.specs.Listed.{descriptorAt}
+use Rattle.modem_steps.specs.Relist.{emptied, keptTo, startedIf, startedOne, startedTo, freshTek, listedAnew, relisted}
 use Rattle.modem_steps.specs.Machine.{authMoment, authStepped, authTold}
 use Rattle.modem_events.specs.Events.{replied}
 use Rattle.modem_limits.specs.Limits.{saidsOfTeks}

@@ -12,7 +12,7 @@ use borrow.Author.Tests.{lt-leb}
 use Rattle.wire.specs.declared.fields.Fields.{Fields}
 use Rattle.wire.specs.Fields.{noParams}
 use Rattle.wire.specs.Messages.{isNone}
-use Rattle.tek_machine.specs.declared.tek.Request.{Request}
+use Rattle.tek_parts.specs.declared.parts.Request.{Request}
 use Rattle.tek_machine.specs.declared.tek.Tek.{Tek}
 use Rattle.tek_machine.specs.declared.tek.TekMoment.{TekMoment}
 use Rattle.tek_machine.specs.declared.tek.TekStep.{TekStep}
@@ -23,7 +23,8 @@ use Rattle.modem_steps.specs.declared.state.Out.{Out}
 use Rattle.modem_steps.specs.declared.state.Work.{Work}
 use Rattle.modem_steps.specs.State.{slotAt, pushed}
 use Rattle.modem_steps.specs.Slots.{tekMoment}
-use Rattle.modem_steps.specs.Relist.{descriptorAt, lists, appended, keptIf, keptOne, keptTo, freshTek}
+use Rattle.relisting.specs.Listed.{descriptorAt, lists}
+use Rattle.modem_steps.specs.Relist.{appended, keptIf, keptOne, keptTo, freshTek}
 use Rattle.modem_limits.specs.Limits.{saidsOfTeks}
 use Rattle.modem.proofs.NoneDropped.{messagesOf, sentBy, pushed-messages}
 

@@ -22,14 +22,15 @@ use Rattle.wire.specs.Fields.{noDescriptor, fieldsOf}
 use Rattle.wire.specs.Reading.{takenOf}
 use Rattle.wire.specs.Limits.{headFits, saidsOf}
 use Rattle.wire.proofs.FieldsFit.{descriptors-ok}
-use Rattle.tek_machine.specs.declared.tek.Request.{Request}
+use Rattle.tek_parts.specs.declared.parts.Request.{Request}
 use Rattle.tek_machine.specs.declared.tek.Tek.{Tek}
 use Rattle.tek_machine.specs.declared.tek.TekStep.{TekStep}
 use Rattle.machines.specs.Transitions.{B, D}
 use Rattle.modem_steps.specs.declared.state.Modem.{Modem}
 use Rattle.modem_steps.specs.declared.state.Work.{Work}
 use Rattle.modem_steps.specs.State.{pastTek, slotAt}
-use Rattle.modem_steps.specs.Relist.{descriptorAt, freshTek}
+use Rattle.relisting.specs.Listed.{descriptorAt}
+use Rattle.modem_steps.specs.Relist.{freshTek}
 use Rattle.modem_events.specs.Events.{replied}
 use Rattle.modem_receive.specs.Receive.{fieldsIn, receiveQuestions, received}
 use Rattle.modem_receive.proofs.ReceiveLaws.{identifier-auth, received-5}

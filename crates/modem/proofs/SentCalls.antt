@@ -10,8 +10,8 @@ use Rattle.questions.specs.declared.refusal.Answer.the-variants.{Done, Refused}
 use Rattle.questions.specs.Questions.{firstNo}
 use Rattle.questions.proofs.ListLaws.{Each, each-nil, each-cons}
 use Rattle.questions.proofs.AnswerLaws.{done-met}
-use Rattle.tek_machine.specs.declared.tek.Request.{Request}
-use Rattle.tek_machine.specs.Tek.{nothing}
+use Rattle.tek_parts.specs.declared.parts.Request.{Request}
+use Rattle.tek_parts.specs.TekParts.{nothing}
 use Rattle.modem_steps.specs.declared.state.Modem.{Modem}
 use Rattle.modem_steps.specs.declared.state.Out.{Out}
 use Rattle.modem_steps.specs.declared.state.Work.{Work}

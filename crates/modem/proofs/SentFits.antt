@@ -28,7 +28,7 @@ use Rattle.wire.proofs.ReadFits.{read-fits}
 use Rattle.modem_steps.specs.declared.state.Modem.{Modem}
 use Rattle.modem_steps.specs.State.{starting}
 use Rattle.modem_steps.specs.Slots.{slotOfSaid}
-use Rattle.modem_steps.specs.Relist.{descriptorAt}
+use Rattle.relisting.specs.Listed.{descriptorAt}
 use Rattle.modem_steps.specs.Machine.{plainEvent}
 use Rattle.modem_steps.specs.Clock.{clocked}
 use Rattle.modem_receive.specs.Receive.{saidKnown, fieldsIn, received}

@@ -25,7 +25,8 @@ use Rattle.modem_steps.specs.declared.state.Modem.{Modem}
 use Rattle.modem_steps.specs.declared.state.Work.{Work}
 use Rattle.modem_steps.specs.State.{withClock, pastTek, noTek, slotAt, pushed, starting}
 use Rattle.modem_steps.specs.Slots.{tekMoment, steppedAt, toldReply, told, toldAll, slotOfSaid, slotAsking}
-use Rattle.modem_steps.specs.Relist.{descriptorAt, lists, emptied, placed, appended, keptIf, keptOne, keptTo, freshTek, startedIf, startedOne, startedTo, listedAnew, relisted}
+use Rattle.relisting.specs.Listed.{descriptorAt, lists}
+use Rattle.modem_steps.specs.Relist.{emptied, placed, appended, keptIf, keptOne, keptTo, freshTek, startedIf, startedOne, startedTo, listedAnew, relisted}
 use Rattle.modem_steps.specs.Machine.{authMoment, authStepped, authTold, plainEvent}
 use Rattle.modem_events.specs.Events.{replied, rejectEvent, rejected, pendedIf, invalidated}
 use Rattle.modem_steps.specs.Clock.{authTimerEvent, tekTimerEvent, authFired, slotFired, slotsFired, clocked}

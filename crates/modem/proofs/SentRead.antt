@@ -11,7 +11,7 @@ use Rattle.wire.specs.Reading.{readOf}
 use Rattle.wire.specs.Writing.{noDigest}
 use Rattle.wire.proofs.FieldsFit.{Shaped}
 use Rattle.wire.proofs.WrittenRead.{keyPlace, digestPlace, written-read}
-use Rattle.tek_machine.specs.declared.tek.Request.{Request}
+use Rattle.tek_parts.specs.declared.parts.Request.{Request}
 use Rattle.modem.specs.Messages.{requestFields, requestOctets, RequestFits}
 
 -- It is one that the head-end receives

@@ -15,12 +15,13 @@ use Rattle.wire.specs.declared.fields.Fields.{Fields}
 use Rattle.wire.specs.declared.fields.Params.{Params}
 use Rattle.wire.specs.Fields.{noParams}
 use Rattle.wire.specs.Messages.{receiverOf}
-use Rattle.tek_machine.specs.declared.tek.Request.{Request}
+use Rattle.tek_parts.specs.declared.parts.Request.{Request}
 use Rattle.tek_machine.specs.declared.tek.Tek.{Tek}
 use Rattle.tek_machine.specs.declared.tek.TekMoment.{TekMoment}
 use Rattle.machines.specs.Transitions.{A, B, D, blank, tekNext, authorizationNext}
 use Rattle.machines.specs.Timers.{isDue}
-use Rattle.tek_machine.specs.Tek.{nothing, keyRequest, sendsInto, identifierAfter, tekSends, tekMoved, tekStays, tekStepOf}
+use Rattle.tek_parts.specs.TekParts.{nothing, sendsInto}
+use Rattle.tek_machine.specs.Tek.{keyRequest, identifierAfter, tekSends, tekMoved, tekStays, tekStepOf}
 use Rattle.authorization_machine.specs.declared.authorization.Authorization.{Authorization}
 use Rattle.authorization_machine.specs.declared.authorization.AuthMoment.{AuthMoment}
 use Rattle.authorization_machine.specs.Authorization.{requestsInto, authIdentifier, informsOf, requestsOf, authMoved, authStays, authStepOf}
@@ -29,7 +30,8 @@ use Rattle.modem_steps.specs.declared.state.Out.{Out}
 use Rattle.modem_steps.specs.declared.state.Work.{Work}
 use Rattle.modem_steps.specs.State.{withClock, slotAt, pushed, starting}
 use Rattle.modem_steps.specs.Slots.{tekMoment, steppedAt, toldReply, told, toldAll, slotOfSaid, slotAsking}
-use Rattle.modem_steps.specs.Relist.{descriptorAt, emptied, lists, placed, appended, keptIf, keptOne, keptTo, freshTek, startedIf, startedOne, startedTo, listedAnew, relisted}
+use Rattle.relisting.specs.Listed.{descriptorAt, lists}
+use Rattle.modem_steps.specs.Relist.{emptied, placed, appended, keptIf, keptOne, keptTo, freshTek, startedIf, startedOne, startedTo, listedAnew, relisted}
 use Rattle.modem_steps.specs.Machine.{authMoment, authStepped, authTold, plainEvent}
 use Rattle.modem_steps.specs.Clock.{authTimerEvent, tekTimerEvent, authFired, slotFired, slotsFired, clocked}
 use Rattle.modem_events.specs.Events.{replied, rejectEvent, rejected, pendedIf, invalidated}

@@ -4,12 +4,12 @@ use mathlib.Core.Path.{_≡_}
 use mathlib.Core.Bool.{true}
 use mathlib.Core.List.{List, [], _∷_, _++_}
 use lib.ListN.{length, take, getD, replicate}
-use Rattle.tek_machine.specs.declared.tek.Request.{Request}
+use Rattle.tek_parts.specs.declared.parts.Request.{Request}
 use Rattle.wire.specs.declared.fields.Fields.{Fields}
 use Rattle.wire.specs.Fields.{noParams, noDescriptor}
 use Rattle.wire.specs.Limits.{fieldsFit, authKeyFits}
 use Rattle.wire.specs.Writing.{messageOf, noDigest}
-use Rattle.tek_machine.specs.Tek.{nothing}
+use Rattle.tek_parts.specs.TekParts.{nothing}
 use Rattle.modem_steps.specs.declared.state.Out.{Out}
 
 -- 12 carries nothing, 4 a SAID, 7 an authorization key number and a SAID

@@ -7,7 +7,7 @@ ghost use Rattle.keys.specs.Octets.{overlay};
 ghost use Rattle.modem.specs.Messages.{outOctets, OutFits};
 ghost use Rattle.modem.specs.Calls.{refusedCall, answeredCall, doneCall, newOf, eventOf, establishedOf, reauthOf, clockOf, receiveOf};
 use crate::messages::put_out;
-use modem_events::clock::clocked;
+use modem_clock::clock::clocked;
 use modem_limits::limits::modem_fits;
 use modem_receive::receive::digest_holds;
 use modem_receive::receive::identifier_fits;

@@ -6,7 +6,7 @@ ghost use lib.Seq.{sets};
 ghost use Rattle.keys.specs.Octets.{overlay};
 ghost use Rattle.modem.specs.Messages.{requestFields, requestOctets, outOctets, RequestFits, OutFits};
 use modem_steps::state::Out;
-use tek_machine::tek::Request;
+use tek_parts::parts::Request;
 use wire::fields::Fields;
 use wire::fields::no_descriptors;
 use wire::fields::no_params;

@@ -1,4 +1,3 @@
-// What the messages of the authorization machine do to the modem (specs/Events.antt: Authorization Reply, Reject and Invalid), and the clock with all its
-// timers (specs/Clock.antt of `modem_steps`). Each contract equates the result with a definition there.
-pub mod clock;
+// What the messages of the authorization machine do to the modem: Authorization Reply, Reject and Invalid. Each contract equates the result with a
+// definition of specs/Events.antt.
 pub mod events;

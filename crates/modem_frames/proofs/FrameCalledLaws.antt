@@ -29,10 +29,11 @@ use Rattle.modem_steps.specs.State.{starting}
 use Rattle.modem_steps.specs.Slots.{slotOfSaid, told}
 use Rattle.modem_receive.specs.Receive.{isKnown}
 use Rattle.keys.specs.declared.sealing.SealedCall.{SealedCall}
-use Rattle.modem_frames.specs.declared.frames.OpenedCall.{OpenedCall}
+use Rattle.modem_frame_rules.specs.declared.rules.OpenedCall.{OpenedCall}
 use Rattle.modem_limits.specs.Limits.{modemFits}
 use Rattle.modem.specs.Messages.{outOctets, OutFits}
-use Rattle.modem_frames.specs.Frames.{machineOf, canSeal, sealAnswer, sealOf, canOpen, openAnswer, countedBy, ModemOpened, missed, openedFor, openOf, machineOut, sealAsked, openAsked}
+use Rattle.modem_frame_rules.specs.FrameRules.{countedBy}
+use Rattle.modem_frames.specs.Frames.{machineOf, canSeal, sealAnswer, sealOf, canOpen, openAnswer, ModemOpened, missed, openedFor, openOf, machineOut, sealAsked, openAsked}
 use Rattle.modem_frames.specs.FrameCalled.{openedCall, openCalled, knownMachine}
 use Rattle.modem.proofs.OutLaws.{out-wider}
 use Rattle.modem.proofs.SentLaws.{sends-none, told-sends}

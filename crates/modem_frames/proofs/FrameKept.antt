@@ -11,7 +11,7 @@ use Rattle.questions.specs.declared.refusal.Refusal.the-variants.{WrongLength, 
 use Rattle.questions.specs.Questions.{firstNo}
 use Rattle.keys.specs.Sealing.{oneMore}
 use Rattle.questions.proofs.TestLaws.{both}
-use Rattle.tek_machine.specs.declared.tek.Pair.{Pair}
+use Rattle.tek_parts.specs.declared.parts.Pair.{Pair}
 use Rattle.modem_steps.specs.declared.state.Modem.{Modem}
 use Rattle.modem_steps.specs.State.{starting}
 use Rattle.modem_steps.specs.Slots.{told, slotOfSaid}
@@ -19,7 +19,8 @@ use Rattle.modem_receive.specs.Receive.{isKnown}
 use Rattle.modem_steps.specs.Clock.{clocked}
 use Rattle.modem_limits.specs.Limits.{slotFits, modemFits}
 use Rattle.modem.specs.Calls.{establishedOf, reauthOf, clockFits, clockOf, receiveOf}
-use Rattle.modem_frames.specs.Frames.{withCounts, countedBy, openOf}
+use Rattle.modem_frame_rules.specs.FrameRules.{withCounts, countedBy}
+use Rattle.modem_frames.specs.Frames.{openOf}
 use Rattle.modem_limits.proofs.LimitsLaws.{limits-of, fits-by}
 use Rattle.modem.proofs.KeptSteps.{plain-told-kept}
 use Rattle.modem.proofs.ModemRows.{answer-of}

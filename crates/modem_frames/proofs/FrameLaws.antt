@@ -24,14 +24,15 @@ use Rattle.keys.specs.Sealing.{keyOut, sealedFor, openedBy, oneMore}
 use Rattle.questions.proofs.TestLaws.{both}
 use Rattle.questions.proofs.AnswerLaws.{done-met}
 use Rattle.wire.proofs.HoldsLaws.{never}
-use Rattle.tek_machine.specs.declared.tek.Pair.{Pair}
+use Rattle.tek_parts.specs.declared.parts.Pair.{Pair}
 use Rattle.machines.specs.Transitions.{D}
 use Rattle.modem_steps.specs.declared.state.Modem.{Modem}
 use Rattle.modem_steps.specs.State.{slotAt}
 use Rattle.modem_steps.specs.Slots.{steppedAt, toldReply, slotOfSaid}
 use Rattle.modem_receive.specs.Receive.{isKnown}
 use Rattle.modem_limits.specs.Limits.{keyZero, pairHeldFits, modemFits}
-use Rattle.modem_frames.specs.Frames.{machineOf, sealAsked, openAsked, canSeal, sealAnswer, sealOf, canOpen, openAnswer, countedBy, ModemOpened, openedFor, openOf}
+use Rattle.modem_frame_rules.specs.FrameRules.{countedBy}
+use Rattle.modem_frames.specs.Frames.{machineOf, sealAsked, openAsked, canSeal, sealAnswer, sealOf, canOpen, openAnswer, ModemOpened, openedFor, openOf}
 use Rattle.modem_limits.proofs.LimitsLaws.{limits-of, tek-in}
 use Rattle.modem.proofs.PairLaws.{first-found}
 

@@ -1,26 +1,24 @@
--- The machine that sealing and opening ask, question 13 of its pair, and the counts: what the code's parts say of the definitions.
+-- The machine that sealing and opening ask: what the parts of the code say of the definitions.
 use mathlib.Core.Path.{_≡_, refl, _∙_, ap}
-use mathlib.Core.Bool.{Bool, true, false, _&&_, _||_, cond}
+use mathlib.Core.Bool.{Bool, true, false, _&&_, cond}
 use Prim.Native.Nat.{ℕ, _≤_, _<_}
 use native.Mathlib.Omega.{arith}
 use lib.Dec.{leb, ltb, eqb}
-use borrow.Author.Tests.{lt-ltb, le-ltb, eq-eqb, ne-eqb}
+use borrow.Author.Tests.{lt-ltb, le-ltb}
 use Rattle.keys.specs.declared.numbers.TekNumber.{TekNumber}
 use Rattle.questions.specs.declared.refusal.Answer.{Answer}
 use Rattle.questions.specs.declared.refusal.Answer.the-variants.{Done, Refused}
 use Rattle.questions.specs.declared.refusal.Refusal.{Refusal}
 use Rattle.questions.specs.declared.refusal.Refusal.the-variants.{OutOfLimits, WrongLength, UnknownSaid, NoKeyForFrame, NoKeyToSeal}
 use Rattle.keys.specs.Numbers.{tekInRange}
-use Rattle.keys.specs.Frame.{serves}
-use Rattle.keys.specs.Sealing.{oneMore}
-use Rattle.tek_machine.specs.declared.tek.Pair.{Pair}
 use Rattle.tek_machine.specs.declared.tek.Tek.{Tek}
 use Rattle.modem_steps.specs.declared.state.Modem.{Modem}
 use Rattle.modem_steps.specs.State.{noTek, slotAt}
 use Rattle.modem_steps.specs.Slots.{slotOfSaid}
 use Rattle.modem_receive.specs.Receive.{isKnown}
 use Rattle.modem_limits.specs.Limits.{modemFits}
-use Rattle.modem_frames.specs.Frames.{machineOf, sealAnswer, openAnswer, withCounts, countedBy, pairSeals, pairOpens, sealAsked, openAsked}
+use Rattle.modem_frame_rules.specs.FrameRules.{pairSeals, pairOpens}
+use Rattle.modem_frames.specs.Frames.{machineOf, sealAnswer, openAnswer, sealAsked, openAsked}
 use Rattle.modem_frames.specs.FrameCalled.{knownMachine}
 
 -- ---- the machine of a SAID
@@ -63,22 +61,3 @@ open-asked m direction address said number tek vector lent =
     ap (λ (a : Answer). cond (modemFits m && eqb direction 1 && ltb address 281474976710656 && leb said 16383 && tekInRange number)
     (cond (leb 16 tek && leb 16 vector && leb 216 lent) a (Refused WrongLength)) (Refused OutOfLimits))
     (after-here (eqb address (m .address)) (isKnown m said) (λ t. pairOpens (m .clock) number (t .pair)) (machineOf m said) noTek NoKeyForFrame UnknownSaid)
-
--- ---- question 13, and the counts
-pub opens-by : (clock : ℕ) (number : TekNumber) (p : Pair) (a b : Bool) → a ≡ serves clock number (p .older) → b ≡ serves clock number (p .newer)
-    → (eqb (p .held) 1 && (a || b)) ≡ pairOpens clock number p
-opens-by clock number p a b ea eb =
-    ap (λ (x : Bool). eqb (p .held) 1 && (x || b)) ea ∙ ap (λ (x : Bool). eqb (p .held) 1 && (serves clock number (p .older) || x)) eb
-
-module _ (n : ℕ) (m : Modem) (k : ℕ) where
-  pub counted-taken : n ≡ 0 → k ≡ oneMore (m .taken) → withCounts m k (m .refused) ≡ countedBy n m
-  unfolding countedBy
-  counted-taken e ek = rw (eq-eqb n 0 e) (ap (λ (x : ℕ). withCounts m x (m .refused)) ek)
-
-  pub counted-refused : (n ≡ 0 → ⊥) → (eqb n 10 || eqb n 13) ≡ true → k ≡ oneMore (m .refused) → withCounts m (m .taken) k ≡ countedBy n m
-  unfolding countedBy
-  counted-refused e is ek = rw (ne-eqb n 0 e, is) (ap (λ (x : ℕ). withCounts m (m .taken) x) ek)
-
-pub counted-not : (n : ℕ) (m : Modem) → (n ≡ 0 → ⊥) → (eqb n 10 || eqb n 13) ≡ false → m ≡ countedBy n m
-unfolding countedBy
-counted-not n m e is = rw (ne-eqb n 0 e, is) refl

@@ -7,7 +7,7 @@ use Rattle.tek_machine.specs.declared.tek.Tek.{Tek}
 use Rattle.modem_steps.specs.declared.state.Modem.{Modem}
 use Rattle.modem_steps.specs.State.{noTek}
 use Rattle.modem_receive.specs.Receive.{isKnown}
-use Rattle.modem_frames.specs.declared.frames.OpenedCall.{OpenedCall}
+use Rattle.modem_frame_rules.specs.declared.rules.OpenedCall.{OpenedCall}
 use Rattle.modem_frames.specs.Frames.{machineOf, ModemOpened}
 
 -- The width is that of the octets written

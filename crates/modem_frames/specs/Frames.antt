@@ -1,8 +1,8 @@
 -- Frames at the modem (document 01, "Modem: TEK machine", questions 1, 2, 10, 13 and 14).
-use mathlib.Core.Bool.{Bool, cond, _&&_, _||_}
+use mathlib.Core.Bool.{Bool, cond, _&&_}
 use mathlib.Core.List.{List, [], _∷_}
 use Prim.Native.Nat.{ℕ}
-use lib.Dec.{leb, ltb, eqb}
+use lib.Dec.{leb, eqb}
 use Rattle.keys.specs.Addresses.{saidFits, addressFits}
 use Rattle.keys.specs.declared.numbers.TekNumber.{TekNumber}
 use Rattle.questions.specs.declared.refusal.Answer.{Answer}
@@ -12,9 +12,8 @@ use Rattle.keys.specs.Numbers.{tekInRange}
 use Rattle.keys.specs.Suites.{widthOf}
 use Rattle.questions.specs.Questions.{firstNo}
 use Rattle.questions.specs.Refusal.{answerNumber}
-use Rattle.keys.specs.Frame.{serves, openingOf}
-use Rattle.keys.specs.Sealing.{KeyOut, noOut, Sealed, sealedFor, openedBy, oneMore, countedAs}
-use Rattle.tek_machine.specs.declared.tek.Pair.{Pair}
+use Rattle.keys.specs.Frame.{openingOf}
+use Rattle.keys.specs.Sealing.{KeyOut, noOut, Sealed, sealedFor, openedBy}
 use Rattle.tek_machine.specs.declared.tek.Tek.{Tek}
 use Rattle.modem_steps.specs.declared.state.Modem.{Modem}
 use Rattle.modem_steps.specs.State.{slotAt, starting}
@@ -22,17 +21,11 @@ use Rattle.modem_steps.specs.Slots.{slotOfSaid, told}
 use Rattle.modem_receive.specs.Receive.{isKnown}
 use Rattle.modem_limits.specs.Limits.{modemFits}
 use Rattle.modem.specs.Messages.{outOctets}
+use Rattle.modem_frame_rules.specs.FrameRules.{pairSeals, pairOpens, countedBy}
 
 -- The machine of a SAID
 abbrev pub machineOf : Modem → ℕ → Tek
 machineOf m said = slotAt m (slotOfSaid m said)
-
--- Questions 14 and 13 of a pair: a key counts while its deadline is after the clock
-abbrev pub pairSeals : ℕ → Pair → Bool
-pairSeals clock p = eqb (p .held) 1 && ltb clock (p .newer .deadline)
-
-abbrev pub pairOpens : ℕ → TekNumber → Pair → Bool
-pairOpens clock number p = eqb (p .held) 1 && (serves clock number (p .older) || serves clock number (p .newer))
 
 -- The octets of the key of a machine that opens a frame
 abbrev pub machineOut : ℕ → TekNumber → Tek → KeyOut
@@ -78,26 +71,6 @@ canOpen m said number = pairOpens (m .clock) number (machineOf m said .pair)
 
 unfoldable pub openAnswer : Modem → ℕ → ℕ → ℕ → TekNumber → ℕ → ℕ → ℕ → Answer
 openAnswer m direction address said number tek vector lent = openAsked m direction address said number (machineOf m said) tek vector lent
-
--- The modem with other counts of frames
-abbrev pub withCounts : Modem → ℕ → ℕ → Modem
-withCounts m taken refused =
-    record {
-      settings = m .settings;
-      address = m .address;
-      said = m .said;
-      clock = m .clock;
-      counter = m .counter;
-      authorization = m .authorization;
-      used = m .used;
-      teks = m .teks;
-      taken = taken;
-      refused = refused;
-    }
-
--- The modem after an opening that is answered with document 01's number n
-unfoldable pub countedBy : ℕ → Modem → Modem
-countedBy n m = countedAs n (withCounts m (oneMore (m .taken)) (m .refused)) (withCounts m (m .taken) (oneMore (m .refused))) m
 
 -- What opening gives: the answer, the modem after it, the key's octets, and the messages that go out
 pub record ModemOpened : Type 0 where

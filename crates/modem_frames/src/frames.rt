@@ -7,18 +7,20 @@ ghost use Rattle.keys.specs.Octets.{overlay};
 ghost use Rattle.keys.specs.Sealing.{sealCalled};
 ghost use Rattle.modem_receive.specs.Receive.{isKnown};
 ghost use Rattle.modem_limits.specs.Limits.{modemFits};
-ghost use Rattle.modem_frames.specs.Frames.{sealOf, countedBy, missed, openOf, pairSeals, pairOpens, machineOut, sealAsked, openAsked};
+ghost use Rattle.modem_frames.specs.Frames.{sealOf, missed, openOf, machineOut, sealAsked, openAsked};
 ghost use Rattle.modem_frames.specs.FrameCalled.{openedCall, openCalled, knownMachine};
 use keys::frame::Opening;
 use keys::frame::decide;
-use keys::frame::is_serving;
 use keys::numbers::TekNumber;
 use keys::numbers::tek_in_range;
 use keys::sealing::SealedCall;
-use keys::sealing::one_more;
 use keys::sealing::put_key;
 use keys::suites::width;
 use modem::messages::put_out;
+use modem_frame_rules::rules::OpenedCall;
+use modem_frame_rules::rules::can_open;
+use modem_frame_rules::rules::can_seal;
+use modem_frame_rules::rules::counted;
 use modem_limits::limits::modem_fits;
 use modem_steps::slots::slot_of_said;
 use modem_steps::state::Modem;
@@ -29,16 +31,7 @@ use questions::refusal::Refusal;
 use questions::refusal::answer_number;
 use questions::refusal::ask;
 use questions::refusal::is_done;
-use tek_machine::tek::Pair;
 use tek_machine::tek::Tek;
-
-// What `open` hands back: the answer, the modem after it, how many octets of TEK and of vector were written, and how many of messages.
-pub struct OpenedCall {
-    pub answer: Answer,
-    pub modem: Modem,
-    pub width: usize,
-    pub count: usize,
-}
 
 // The machine of a SAID; one that holds nothing where the SAID is not known.
 fn machine_of(m: Modem, said: u16) -> Tek
@@ -55,23 +48,6 @@ fn is_known(m: Modem, said: u16) -> bool
     ensures { λ r. ⌜ r ≡ isKnown m said ⌝ }
 {
     slot_of_said(m, said) < 4
-}
-
-// Question 14.
-fn can_seal(clock: u64, p: Pair) -> bool
-    ensures { λ r. ⌜ r ≡ pairSeals clock p ⌝ }
-{
-    let newer = p.newer;
-    (p.held == 1) & (clock < newer.deadline)
-}
-
-// Question 13.
-fn can_open(clock: u64, number: TekNumber, p: Pair) -> bool
-    ensures { λ r. ⌜ r ≡ pairOpens clock number p ⌝ }
-{
-    let older = p.older;
-    let newer = p.newer;
-    (p.held == 1) & (is_serving(older, number, clock) | is_serving(newer, number, clock))
 }
 
 // All questions of `seal`; `t` is the SAID's machine, and the last two are the lengths of the lent slices.
@@ -117,22 +93,6 @@ fn open_answer(
     let a10 = ask(q10, Refusal::UnknownSaid, a13);
     let a2 = ask(q2, Refusal::WrongLength, a10);
     ask(q1, Refusal::OutOfLimits, a2)
-}
-
-// An opening that gave the number `n` adds one to the frames taken, or to those refused with 10 or 13.
-fn counted(n: u8, m: Modem) -> Modem
-    ensures { λ r. ⌜ r ≡ countedBy n m ⌝ }
-{
-    let mut r = m;
-    if n == 0 {
-        r.taken = one_more(m.taken);
-        return r;
-    }
-    if (n == 10) | (n == 13) {
-        r.refused = one_more(m.refused);
-        return r;
-    }
-    r
 }
 
 // The octets of the key of a machine that opens a frame, where one does; how many of each is handed back.

@@ -14,7 +14,7 @@ use Rattle.questions.specs.declared.settings.Waits.{Waits}
 use Rattle.keys.specs.declared.traffic.TrafficKey.{TrafficKey}
 use Rattle.wire.specs.Messages.{different}
 use Rattle.authorization_machine.specs.declared.authorization.Authorization.{Authorization}
-use Rattle.tek_machine.specs.declared.tek.Pair.{Pair}
+use Rattle.tek_parts.specs.declared.parts.Pair.{Pair}
 use Rattle.tek_machine.specs.declared.tek.Tek.{Tek}
 use Rattle.machines.specs.declared.timer.Timer.{Timer}
 use Rattle.machines.specs.Transitions.{A, B, D, E, F}

@@ -16,8 +16,8 @@ use modem_steps::state::Modem;
 use questions::apart::all_apart;
 use questions::settings::Waits;
 use questions::settings::settings_fit;
-use tek_machine::tek::Pair;
 use tek_machine::tek::Tek;
+use tek_parts::parts::Pair;
 
 fn timer_fits(must: bool, clock: u64, ahead: u64, t: Timer) -> bool
     ensures { λ r. ⌜ r ≡ timerFits must clock ahead t ⌝ }

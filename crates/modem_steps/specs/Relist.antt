@@ -1,30 +1,22 @@
 -- The TEK machines after an Authorization Reply (document 01, "Modem: authorization machine": B-C, D-C).
 use Prim.Native.Nat.{ℕ, zero, suc, _+_}
-use mathlib.Core.Bool.{Bool, cond, _&&_, _||_, not}
-use lib.Dec.{eqb, ltb, leb}
-use lib.ListN.{getD, set, replicate}
+use mathlib.Core.Bool.{Bool, cond, _&&_}
+use lib.Dec.{ltb, leb}
+use lib.ListN.{set, replicate}
 use Rattle.wire.specs.declared.fields.Descriptor.{Descriptor}
 use Rattle.wire.specs.declared.fields.Fields.{Fields}
-use Rattle.wire.specs.Fields.{noParams, noDescriptor}
+use Rattle.wire.specs.Fields.{noParams}
 use Rattle.tek_machine.specs.declared.tek.Tek.{Tek}
 use Rattle.tek_machine.specs.declared.tek.TekStep.{TekStep}
 use Rattle.machines.specs.Timers.{off}
 use Rattle.machines.specs.Transitions.{A}
-use Rattle.tek_machine.specs.Tek.{noPair, tekStepOf}
+use Rattle.tek_parts.specs.TekParts.{noPair}
+use Rattle.tek_machine.specs.Tek.{tekStepOf}
 use Rattle.modem_steps.specs.declared.state.Modem.{Modem}
 use Rattle.modem_steps.specs.declared.state.Work.{Work}
 use Rattle.modem_steps.specs.State.{withMachines, noTek, slotAt, pushed}
 use Rattle.modem_steps.specs.Slots.{tekMoment, slotOfSaid}
-
-abbrev pub descriptorAt : Fields → ℕ → Descriptor
-descriptorAt f i = getD (f .descriptors) i noDescriptor
-
--- One of the Reply's descriptors has a SAID with a suite
-abbrev pub hasAt : Fields → ℕ → ℕ → ℕ → Bool
-hasAt f i said suite = ltb i (f .count) && eqb (descriptorAt f i .said) said && eqb (descriptorAt f i .suite) suite
-
-unfoldable pub lists : Fields → ℕ → ℕ → Bool
-lists f said suite = hasAt f 0 said suite || hasAt f 1 said suite || hasAt f 2 said suite || hasAt f 3 said suite
+use Rattle.relisting.specs.Listed.{descriptorAt, goesOn}
 
 -- The slots emptied
 unfoldable pub emptied : Work → Work
@@ -41,13 +33,13 @@ placed w s =
 unfoldable pub appended : Work → TekStep → Work
 appended w s = cond (leb 4 (w .modem .used)) w (placed w s)
 
--- A machine goes on where its SAID is listed with its suite and it is not in A: it is told Complete
+-- A machine that goes on is told Complete
 unfoldable pub keptIf : Bool → Work → Tek → Work
 keptIf goes w t = cond goes (appended w (tekStepOf t 4 (tekMoment (w .modem)) noParams noParams)) w
 
 unfoldable pub keptOne : Fields → Modem → Work → ℕ → Work
 keptOne f old w i =
-    keptIf (ltb i (old .used) && lists f (slotAt old i .said) (slotAt old i .suite) && not (eqb (slotAt old i .state) A)) w (slotAt old i)
+    keptIf (goesOn (ltb i (old .used)) f (slotAt old i .said) (slotAt old i .suite) (slotAt old i .state)) w (slotAt old i)
 
 -- the old slots below n, in slot order
 unfoldable pub keptTo : ℕ → Fields → Modem → Work → Work

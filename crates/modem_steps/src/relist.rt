@@ -2,37 +2,20 @@
 ghost use mathlib.Core.Path.{_≡_};
 ghost use Prim.Native.Nat.{_<_};
 ghost use Rattle.modem_steps.specs.State.{Ready};
-ghost use Rattle.modem_steps.specs.Relist.{hasAt, lists, emptied, appended, keptIf, keptOne, freshTek, startedIf, startedOne, startedTo, listedAnew, relisted};
+ghost use Rattle.modem_steps.specs.Relist.{emptied, appended, keptIf, keptOne, freshTek, startedIf, startedOne, startedTo, listedAnew, relisted};
 use crate::slots::slot_of_said;
 use crate::slots::tek_moment;
 use crate::state::Modem;
 use crate::state::Work;
 use crate::state::no_tek;
 use machines::timer::cleared;
+use relisting::listed::goes_on;
 use tek_machine::tek::Tek;
 use tek_machine::tek::TekStep;
-use tek_machine::tek::no_pair;
+use tek_parts::parts::no_pair;
 use wire::fields::Descriptor;
 use wire::fields::Fields;
 use wire::fields::no_params;
-
-fn has_at(f: Fields, i: usize, said: u16, suite: u16) -> bool
-    requires { ⌜ i < 4 ⌝ }
-    ensures { λ r. ⌜ r ≡ hasAt f i said suite ⌝ }
-{
-    let d = f.descriptors[i];
-    (i < f.count) & (d.said == said) & (d.suite == suite)
-}
-
-// Whether the Reply lists a SAID with a suite.
-fn is_listed(f: Fields, said: u16, suite: u16) -> bool
-    ensures { λ r. ⌜ r ≡ lists f said suite ⌝ }
-{
-    has_at(f, 0, said, suite)
-        | has_at(f, 1, said, suite)
-        | has_at(f, 2, said, suite)
-        | has_at(f, 3, said, suite)
-}
 
 // A machine for a listed SAID, before it is told Authorized.
 fn fresh_tek(d: Descriptor) -> Tek
@@ -98,13 +81,13 @@ impl Work {
         self.appended(s)
     }
 
-    // The machine in slot `i` of the modem before goes on, where it is listed and not in A.
+    // The machine in slot `i` of the modem before, where it goes on.
     fn kept_one(self, f: Fields, old: Modem, i: usize) -> Work
         requires { ⌜ (i < 4) × Ready (self .modem) ⌝ }
         ensures { λ r. ⌜ (r ≡ keptOne f old self i) × Ready (r .modem) ⌝ }
     {
         let t = old.teks[i];
-        let goes = (i < old.used) & is_listed(f, t.said, t.suite) & (t.state != 0);
+        let goes = goes_on(i < old.used, f, t.said, t.suite, t.state);
         self.kept_if(goes, t)
     }
 

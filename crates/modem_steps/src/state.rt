@@ -6,10 +6,10 @@ use keys::numbers::AkNumber;
 use machines::timer::cleared;
 use questions::refusal::Answer;
 use questions::settings::Settings;
-use tek_machine::tek::Request;
 use tek_machine::tek::Tek;
-use tek_machine::tek::no_pair;
-use tek_machine::tek::no_request;
+use tek_parts::parts::Request;
+use tek_parts::parts::no_pair;
+use tek_parts::parts::no_request;
 
 // `said` is the modem's own, which its Authorization Requests carry; `counter` is the last Identifier taken; of the four slots the first
 // `used` hold machines; `taken` and `refused` count frames.

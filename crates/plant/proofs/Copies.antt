@@ -15,7 +15,7 @@ use Rattle.wire.specs.declared.fields.Params.{Params}
 use Rattle.wire.specs.declared.fields.Fields.{Fields}
 use Rattle.wire.specs.Messages.{codeOf}
 use Rattle.wire.specs.Reading.{takenOf}
-use Rattle.tek_machine.specs.declared.tek.Pair.{Pair}
+use Rattle.tek_parts.specs.declared.parts.Pair.{Pair}
 use Rattle.keys.specs.Addresses.{addressFits}
 use Rattle.plant.specs.World.{Frame}
 use Rattle.plant.specs.Run.{Did}

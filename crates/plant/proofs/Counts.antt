@@ -22,9 +22,10 @@ use Rattle.headend_state.specs.declared.state.HeadEnd.{HeadEnd}
 use Rattle.headend_limits.specs.Search.{outOfLimits, oneOf}
 use Rattle.headend_steps.specs.Listing.{listAnswer, listFor, listCalled}
 use Rattle.headend_steps.specs.Clock.{clockAnswer, clockFor, clockCalled}
+use Rattle.headend_frame_questions.specs.FrameQuestions as HQ
 use Rattle.headend_frames.specs.Frames as HF
 use Rattle.headend_rules.specs.Calls as Head
-use Rattle.headend_rules.specs.FrameCalls as HeadFrames
+use Rattle.headend_frames.specs.FrameCalls as HeadFrames
 use Rattle.modem_frames.specs.Frames as ModemFrames
 use Rattle.modem_steps.specs.declared.state.Modem.{Modem}
 use Rattle.modem.proofs.PairLaws.{established-keeps, reauth-keeps, receive-keeps, clock-keeps}
@@ -92,13 +93,13 @@ not-both n e f = never (subst (λ (k : ℕ). isCountedRefused k ≡ true) (eqb-t
 abbrev CountedBy : ℕ → ℕ → ℕ → ℕ → ℕ → Type 0
 CountedBy n taken refused taken′ refused′ = (taken′ ≡ moreBy (countIf (isTaken n) 0) taken) × (refused′ ≡ moreBy (countIf (isCountedRefused n) 0) refused)
 
-open-head : (n : ℕ) (h : HeadEnd) → CountedBy n (h .taken) (h .refused) (HF.countedBy n h .taken) (HF.countedBy n h .refused)
-unfolding HF.countedBy
+open-head : (n : ℕ) (h : HeadEnd) → CountedBy n (h .taken) (h .refused) (HQ.countedBy n h .taken) (HQ.countedBy n h .refused)
+unfolding HQ.countedBy
 open-head n h = go (eqb n 0) (isCountedRefused n) (not-both n)
   where
     go : (b c : Bool) → (b ≡ true → c ≡ true → ⊥)
-        → (cond b (HF.withCounts h (oneMore (h .taken)) (h .refused)) (cond c (HF.withCounts h (h .taken) (oneMore (h .refused))) h) .taken ≡ moreBy (countIf b 0) (h .taken))
-        × (cond b (HF.withCounts h (oneMore (h .taken)) (h .refused)) (cond c (HF.withCounts h (h .taken) (oneMore (h .refused))) h) .refused ≡ moreBy (countIf c 0) (h .refused))
+        → (cond b (HQ.withCounts h (oneMore (h .taken)) (h .refused)) (cond c (HQ.withCounts h (h .taken) (oneMore (h .refused))) h) .taken ≡ moreBy (countIf b 0) (h .taken))
+        × (cond b (HQ.withCounts h (oneMore (h .taken)) (h .refused)) (cond c (HQ.withCounts h (h .taken) (oneMore (h .refused))) h) .refused ≡ moreBy (countIf c 0) (h .refused))
     go true true apart = absurd (apart refl refl)
     go true false apart = (refl, refl)
     go false true apart = (refl, refl)
@@ -109,7 +110,7 @@ head-opening : (h : HeadEnd) (xs : List Assoc) (direction address said : ℕ) (n
     (HeadFrames.openOf h xs direction address said number tek vector lent .state .taken) (HeadFrames.openOf h xs direction address said number tek vector lent .state .refused)
 unfolding HF.openedWith
 head-opening h xs direction address said number tek vector lent =
-    go (HF.openAnswer h (firstOf (outOfLimits h) xs) (length xs) (lookupOf (OfSaid said) xs) direction address said number tek vector lent)
+    go (HQ.openAnswer h (firstOf (outOfLimits h) xs) (length xs) (lookupOf (OfSaid said) xs) direction address said number tek vector lent)
   where
     go : (a : Answer) → CountedBy (answerNumber (HF.openedFor a h (lookupOf (OfSaid said) xs) address said number .answer)) (h .taken) (h .refused)
         (HF.openedFor a h (lookupOf (OfSaid said) xs) address said number .state .taken) (HF.openedFor a h (lookupOf (OfSaid said) xs) address said number .state .refused)

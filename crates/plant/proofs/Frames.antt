@@ -20,8 +20,8 @@ use Rattle.association.specs.Made.{Made, keyOf, recordOf}
 use Rattle.records.specs.Records.{none}
 use Rattle.keys.specs.Addresses.{addressFits}
 use Rattle.headend_frames.specs.Frames.{HeadOpened}
-use Rattle.headend_rules.specs.FrameCalls as HeadFrames
-use Rattle.headend_rules.proofs.FrameLaws as HeadLaws
+use Rattle.headend_frames.specs.FrameCalls as HeadFrames
+use Rattle.headend.proofs.FrameLaws as HeadLaws
 use Rattle.modem_frames.specs.Frames as ModemFrames
 use Rattle.modem_frames.specs.Frames.{ModemOpened, machineOf}
 use Rattle.modem_frames.proofs.FrameLaws as ModemLaws

@@ -18,7 +18,7 @@ use Rattle.headend_limits.specs.Search.{halfIn}
 use Rattle.headend_rules.specs.Calls as Head
 use Rattle.headend_rules.proofs.StateLaws.{by-answer, list-state, list-stays, clock-state, receive-base}
 use Rattle.headend_rules.proofs.SecondLaws.{clock-forward, clock-still, list-front}
-use Rattle.headend_rules.proofs.FrameAnswers.{open-same}
+use Rattle.headend.proofs.FrameAnswers.{open-same}
 use Rattle.modem.specs.Calls as Mdm
 use Rattle.plant.specs.World.{World, Step, list, clock, established, reauth, up, down, sealDown, sealUp, openUp, openDown, clockedBy, clockAnswers}
 use Rattle.plant.specs.Run.{after, worldAfter}

@@ -25,17 +25,17 @@ use Rattle.wire.specs.Messages.{codeOf}
 use Rattle.wire.specs.Reading.{takenOf}
 use Rattle.wire.proofs.MessageAnswers.{read-answer}
 use Rattle.headend_state.specs.declared.state.HeadEnd.{HeadEnd}
-use Rattle.headend_answers.specs.Answers.{paramsAt, keyReply}
+use Rattle.answer_fields.specs.AnswerFields.{paramsAt, keyReply}
 use Rattle.headend_rules.specs.Calls as Head
-use Rattle.headend_rules.specs.FrameCalls as HeadFrames
+use Rattle.headend_frames.specs.FrameCalls as HeadFrames
 use Rattle.headend_rules.specs.Minting.{namedPairs, acceptedList}
 use Rattle.headend_rules.proofs.AnswersSent.{request}
 use Rattle.headend_rules.proofs.AnswerCases.{placeOf}
 use Rattle.headend_rules.proofs.Refused.{list-refused-same}
 use Rattle.headend_rules.proofs.StateLaws.{by-answer, list-state, clock-state, receive-base}
 use Rattle.headend_rules.proofs.SecondLaws.{clock-forward}
-use Rattle.headend_rules.proofs.FrameLaws as HeadLaws
-use Rattle.headend_rules.proofs.FrameAnswers.{up-reply, reply-read, invalid-not-reply, open-same}
+use Rattle.headend.proofs.FrameLaws as HeadLaws
+use Rattle.headend.proofs.FrameAnswers.{up-reply, reply-read, invalid-not-reply, open-same}
 use Rattle.modem.specs.Calls as Mdm
 use Rattle.modem.proofs.AnswerLaws.{read-fields}
 use Rattle.modem.proofs.PairLaws.{clock-pairs, clock-done}

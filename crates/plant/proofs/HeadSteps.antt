@@ -28,13 +28,13 @@ use Rattle.headend_limits.proofs.ListingLaws.{listing-facts, unnamed}
 use Rattle.headend_rules.specs.Calls.{newOf, listOf, listRecords, clockOf, clockRecords, receiveOf}
 use Rattle.headend_rules.specs.Minting.{namedPairs}
 use Rattle.headend_rules.specs.Within.{Within}
-use Rattle.headend_rules.specs.FrameCalls.{openOf}
+use Rattle.headend_frames.specs.FrameCalls.{openOf}
 use Rattle.headend_rules.proofs.CallsLaws.{AskedList, list-met}
 use Rattle.headend_rules.proofs.KeptLimits.{new-within, list-within, clock-within, receive-within}
 use Rattle.headend_rules.proofs.StateLaws.{list-state, clock-state}
 use Rattle.headend_rules.proofs.MintLaws.{Shows, shows-same, list-shows, clock-shows, receive-shows, fresh-shows}
 use Rattle.headend_rules.proofs.Refused.{list-refused-same}
-use Rattle.headend_rules.proofs.FrameAnswers.{same-within, open-same}
+use Rattle.headend.proofs.FrameAnswers.{same-within, open-same}
 use Rattle.plant.proofs.LogLaws.{Log, linesIn, logsTo, logsListed, lines-listed, lines-to, listed-good, to-good}
 use Rattle.plant.proofs.SaidLaws.{saidsIn, Different, each-append, different-append, saids-clocked, saids-listed}
 use Rattle.plant.proofs.EntryLogs.{Logged, EntriesLogged, log-listed, log-right, log-clocked, new-logged, grown-entries, rekeyed-logged, receive-state}

@@ -19,7 +19,7 @@ use Rattle.wire.specs.declared.fields.Params.{Params}
 use Rattle.wire.specs.Messages.{codeOf}
 use Rattle.wire.specs.Fields.{fieldsOf}
 use Rattle.wire.specs.Reading.{takenOf}
-use Rattle.tek_machine.specs.Tek.{keyOf, pairOf}
+use Rattle.tek_parts.specs.TekParts.{keyOf, pairOf}
 use Rattle.modem_receive.specs.Receive.{paramsWide, fieldsIn}
 use Rattle.modem.specs.Calls as Mdm
 use Rattle.modem_frames.specs.Frames.{machineOf, sealOf}

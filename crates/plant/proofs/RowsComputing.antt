@@ -16,26 +16,31 @@ use Rattle.wire.specs.Reading.{placeOf, takenOf, readOf}
 use Rattle.wire.specs.Writing.{paramsItems, descriptorItems, descriptorsItems, itemsOfType, itemsOfTypes, itemsOf, message, messageOf}
 use Rattle.records.specs.Records.{firstBy, listedRecords}
 use Rattle.authorization_machine.specs.Authorization.{authIdentifier, authCounter, authTimer, informsOf, requestsOf, authMoved, authStepOf}
-use Rattle.tek_machine.specs.Tek.{counterAfter, identifierAfter, tekTimer, pairAfter, tekSends, tekMoved, tekStepOf}
+use Rattle.tek_parts.specs.TekParts.{counterAfter}
+use Rattle.tek_machine.specs.Tek.{identifierAfter, tekTimer, pairAfter, tekSends, tekMoved, tekStepOf}
 use Rattle.machines.specs.Timers.{isDue}
 use Rattle.machines.specs.Transitions.{nextIn, authorizationTransitions, tekTransitions}
 use Rattle.modem_steps.specs.Clock.{authTimerEvent, tekTimerEvent, authFired, slotFired, slotsFired, clocked}
 use Rattle.modem_steps.specs.Machine.{authStepped, authTold}
 use Rattle.modem_events.specs.Events.{replied, rejectEvent, rejected, invalidated}
 use Rattle.modem_receive.specs.Receive.{widthsFit, saidKnown, identifierFits, digestHolds, receiveQuestions, received}
-use Rattle.modem_steps.specs.Relist.{lists, emptied, appended, keptIf, keptOne, keptTo, startedIf, startedOne, startedTo, listedAnew, relisted}
+use Rattle.relisting.specs.Listed.{lists}
+use Rattle.modem_steps.specs.Relist.{emptied, appended, keptIf, keptOne, keptTo, startedIf, startedOne, startedTo, listedAnew, relisted}
 use Rattle.modem_steps.specs.Slots.{steppedAt, toldReply, toldAll, firstSlot}
 use Rattle.modem_steps.specs.State.{pushed}
-use Rattle.headend_answers.specs.Answers.{descriptorAt, keyAnswer, requestAnswer, requestState, reactionOf}
+use Rattle.answer_fields.specs.AnswerFields.{descriptorAt}
+use Rattle.headend_answers.specs.Answers.{keyAnswer, requestAnswer, requestState, reactionOf}
 use Rattle.headend_state.specs.Authorization.{activeOf, hasNumber, isActive, keysFor}
 use Rattle.headend_steps.specs.Clock.{clockQuestions, clockAnswer, clockCalled}
 use Rattle.headend_state.specs.Entries.{knownFrom, listsSuite}
-use Rattle.headend_frames.specs.Frames.{heldSuits, frameFits, sealAnswer, sealedWith, openAnswer, countedBy, invalidOctets, openedWith}
+use Rattle.headend_frame_questions.specs.FrameQuestions.{heldSuits, frameFits, sealAnswer, openAnswer, countedBy}
+use Rattle.headend_frames.specs.Frames.{sealedWith, invalidOctets, openedWith}
 use Rattle.headend_limits.specs.Limits.{placeFits, listingFits, newAt, saidsDiffer as headSaidsDiffer, authKeysFit, entryFits, sharesAt, shares, isApart, allApart, entriesFrom, headFits}
 use Rattle.headend_steps.specs.Listing.{listQuestions, listAnswer, listCalled}
 use Rattle.headend_steps.specs.Receive.{recordSuits, identifierFits as headIdentifierFits, receiveAnswer, answerOctets, receiveCalled, receiveWritten}
 use Rattle.modem.specs.Calls.{eventOf, clockFits, clockOf, receiveOf}
-use Rattle.modem_frames.specs.Frames.{sealAsked, openAsked, sealAnswer as modemSealAnswer, sealOf, openAnswer as modemOpenAnswer, countedBy as modemCountedBy, openOf}
+use Rattle.modem_frame_rules.specs.FrameRules.{countedBy as modemCountedBy}
+use Rattle.modem_frames.specs.Frames.{sealAsked, openAsked, sealAnswer as modemSealAnswer, sealOf, openAnswer as modemOpenAnswer, openOf}
 use Rattle.modem_limits.specs.Limits.{timerFits, authorizationFits, keyZero, pairHeldFits, longestWait, tekFits, tekZero, slotFits, saidsOfTeks, modemFits}
 use Rattle.modem.specs.Messages.{requestOctets, requestsOctets, outOctets}
 

@@ -11,7 +11,7 @@ use Rattle.wire.specs.Reading.{readOf}
 use Rattle.wire.specs.Writing.{messageOf, noDigest}
 use Rattle.records.specs.Records.{lookupOf}
 use Rattle.headend_limits.specs.Search.{ofRequest}
-use Rattle.headend_answers.specs.Answers.{keyReply}
+use Rattle.answer_fields.specs.AnswerFields.{keyReply}
 use Rattle.headend_rules.specs.Calls.{receiveOctets}
 use Rattle.headend_rules.proofs.FoundLaws.{same-found}
 use Rattle.headend_rules.proofs.ReplyLaws.{replies, key-free, reply-seen}

@@ -12,7 +12,7 @@ use Rattle.association.specs.Made.{Accepted}
 use Rattle.headend_rules.specs.Calls as Head
 use Rattle.headend_rules.specs.Minting.{acceptedList}
 use Rattle.headend_rules.proofs.StateLaws.{receive-base}
-use Rattle.headend_rules.proofs.FrameAnswers.{open-same}
+use Rattle.headend.proofs.FrameAnswers.{open-same}
 use Rattle.plant.specs.World.{World, fresh, Step, list, clock, established, reauth, up, down, sealDown, sealUp, openUp, openDown, clockedBy, clockAnswers}
 use Rattle.plant.specs.Run.{after}
 use Rattle.plant.specs.KeysMade.{acceptedIf, clockIf, acceptedIn, acceptedBy, SecondsTold}

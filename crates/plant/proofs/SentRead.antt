@@ -19,7 +19,7 @@ use Rattle.wire.specs.Reading.{readOf}
 use Rattle.wire.specs.Attributes.{two, octets}
 use Rattle.wire.specs.Messages.{lengthOf}
 use Rattle.wire.specs.Writing.{itemsOf, message, messageOf, noDigest}
-use Rattle.tek_machine.specs.declared.tek.Request.{Request}
+use Rattle.tek_parts.specs.declared.parts.Request.{Request}
 use Rattle.modem_steps.specs.declared.state.Modem.{Modem}
 use Rattle.modem_steps.specs.declared.state.Out.{Out}
 use Rattle.modem_steps.specs.State.{starting}

@@ -24,7 +24,7 @@ use Rattle.headend_answers.specs.Answers.{withKeys, keysAfter, stateAfter}
 use Rattle.headend_limits.proofs.LimitsLaws.{known-place}
 use Rattle.headend_rules.specs.Calls as Head
 use Rattle.headend_rules.specs.Minting.{namedPairs, acceptedList}
-use Rattle.headend_rules.proofs.FrameAnswers.{open-same}
+use Rattle.headend.proofs.FrameAnswers.{open-same}
 use Rattle.modem.specs.Calls as Mdm
 use Rattle.modem.proofs.PairLaws.{established-keeps, reauth-keeps, receive-keeps, clock-done}
 use Rattle.modem_frames.proofs.FrameKept.{open-keeps, clock-depends}

@@ -16,7 +16,7 @@ use Rattle.association.specs.declared.record.Assoc.{Assoc}
 use Rattle.keys.specs.Addresses.{addressFits}
 use Rattle.headend_state.specs.State as HeadState
 use Rattle.headend_limits.proofs.LimitsLaws.{head-facts}
-use Rattle.headend_rules.proofs.FrameAnswers as HeadAnswers
+use Rattle.headend.proofs.FrameAnswers as HeadAnswers
 use Rattle.modem.specs.Calls.{newQuestions, newOf}
 use Rattle.modem_limits.specs.Limits.{modemFits}
 use Rattle.modem_steps.specs.declared.state.Modem.{Modem}

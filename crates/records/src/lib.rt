@@ -6,12 +6,12 @@ ghost use Rattle.records.specs.Records.{firstOf, lookupOf, rolledTo, sto
 use association::listing::Listing;
 use association::listing::listed;
 use association::record::Assoc;
-use association::roll::rolled;
 use association::search::Found;
 use association::search::Probe;
 use association::search::found_at;
 use association::search::is_hit;
 use association::search::missed_at;
+use rolling::roll::rolled;
 
 // The place of the first record that `p` looks for, or the number of records.
 pub fn first(records: &[Assoc], p: Probe) -> usize

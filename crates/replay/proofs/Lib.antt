@@ -1,1 +1,2 @@
 pub mod FedLaws
+pub mod TurnLaws

@@ -1,17 +1,24 @@
 // The program `replay`: calls of both ends from standard input, a line each, and an answer a line on standard output, so that another
-// implementation can be held against the engine call by call. What a line answers is `replay_turn`'s promise; here lines are cut out of the
-// input, and the answers written. No contract can say which octets the C library's calls read and write.
+// implementation can be held against the engine call by call. Its promises: `apply::apply`, one call applied to both ends and the records as
+// values, gives plant's definition of that step (`stepOf`), with every lent octet, by `apply_rules`' specs/Steps.antt and specs/Gave.antt;
+// `line::take_line`, the state after any line and the text that it answers are those of `replay_start`'s specs/Replay.antt. Here lines are cut
+// out of the input, and the answers written. No contract can say which octets the C library's calls read and write.
+mod apply;
+mod clock;
+mod line;
+mod turn;
+
 ghost use mathlib.Core.Path.{_≡_};
 ghost use Prim.Native.Nat.{_≤_, _<_};
 ghost use lib.ListN.{length, take};
 ghost use Rattle.replay_start.specs.Replay.{afterLine};
 ghost use Rattle.replay.specs.Fed.{kept, fedBy, fedAll, pendingIn, Fed};
+use crate::line::take_line;
 use libc::STDIN_FILENO;
 use libc::STDOUT_FILENO;
 use replay_start::lines::put_end;
 use replay_start::start::Replay;
 use replay_start::start::begin;
-use replay_turn::line::take_line;
 
 // A run, and how many characters of the line that comes stand in the slice lent for it.
 struct Reading {

@@ -6,7 +6,7 @@ use Prim.Native.Nat.{ℕ, _≤_}
 use native.Mathlib.Omega.{arith}
 use lib.ListN.{length, set}
 use Rattle.keys.specs.Octets.{overlay}
-use Rattle.replay_text.specs.declared.setup.ReadModem.{ReadModem}
+use Rattle.replay_setup.specs.declared.setup.ReadModem.{ReadModem}
 use Rattle.apply_rules.specs.declared.ends.Ends.{Ends}
 use Rattle.replay_start.specs.declared.start.Stage.{Stage}
 use Rattle.replay_start.specs.declared.start.Stage.the-variants.{Stopped}

@@ -1,8 +1,8 @@
 -- What the lines of set-up do to a run.
 use mathlib.Core.Path.{_≡_, sym, _∙_, ap}
 use mathlib.Core.Bool.{Bool, true, false, cond, _&&_}
-use Rattle.replay_text.specs.declared.setup.ReadSettings.{ReadSettings}
-use Rattle.replay_text.specs.declared.setup.ReadModem.{ReadModem}
+use Rattle.replay_setup.specs.declared.setup.ReadSettings.{ReadSettings}
+use Rattle.replay_setup.specs.declared.setup.ReadModem.{ReadModem}
 use Rattle.apply_rules.specs.declared.ends.Ends.{Ends}
 use Rattle.replay_start.specs.declared.start.Stage.the-variants.{ModemNames, Running, Stopped}
 use Rattle.replay_start.specs.declared.start.Replay.{Replay}

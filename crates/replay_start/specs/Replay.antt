@@ -11,10 +11,10 @@ use Rattle.association.specs.Search.{blank}
 use Rattle.headend_rules.specs.Calls as Head
 use Rattle.modem.specs.Calls as Mdm
 use Rattle.plant.specs.World.{fresh}
-use Rattle.replay_text.specs.declared.setup.ReadSettings.{ReadSettings}
-use Rattle.replay_text.specs.declared.setup.ReadModem.{ReadModem}
-use Rattle.replay_text.specs.Setup.{settingsNamesOf, modemNamesOf, settingsOf, modemOf}
-use Rattle.replay_text.specs.Answer.{countsText}
+use Rattle.replay_setup.specs.declared.setup.ReadSettings.{ReadSettings}
+use Rattle.replay_setup.specs.declared.setup.ReadModem.{ReadModem}
+use Rattle.replay_setup.specs.Setup.{settingsNamesOf, modemNamesOf, settingsOf, modemOf}
+use Rattle.replay_answer.specs.Answer.{countsText}
 use Rattle.apply_rules.specs.declared.ends.Ends.{Ends}
 use Rattle.apply_rules.specs.Steps.{endsOf}
 use Rattle.replay_start.specs.declared.start.Stage.{Stage}

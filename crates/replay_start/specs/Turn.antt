@@ -6,8 +6,8 @@ use lib.ListN.{length, take, replicate}
 use Rattle.keys.specs.Octets.{overlay}
 use Rattle.calls.specs.declared.Kind.{Kind}
 use Rattle.plant.specs.World.{Step, stepOf}
-use Rattle.replay_text.specs.Call.{Told, callOf}
-use Rattle.replay_text.specs.Answer.{answerText}
+use Rattle.replay_call.specs.Call.{Told, callOf}
+use Rattle.replay_answer.specs.Answer.{answerText}
 use Rattle.apply_rules.specs.declared.ends.Ends.{Ends}
 use Rattle.apply_rules.specs.Steps.{worldOf, endsOf, stepFor}
 use Rattle.apply_rules.specs.Gave.{gaveOf}

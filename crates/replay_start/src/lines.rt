@@ -15,12 +15,12 @@ use crate::start::both_fit;
 use crate::start::modem_read;
 use crate::start::settings_read;
 use apply_rules::ends::Ends;
-use replay_text::answer::put_counts;
-use replay_text::setup::ReadModem;
-use replay_text::setup::is_modem_names;
-use replay_text::setup::is_settings_names;
-use replay_text::setup::read_modem;
-use replay_text::setup::read_settings;
+use replay_answer::answer::put_counts;
+use replay_setup::setup::ReadModem;
+use replay_setup::setup::is_modem_names;
+use replay_setup::setup::is_settings_names;
+use replay_setup::setup::read_modem;
+use replay_setup::setup::read_settings;
 
 // The run after a line, and how many characters were answered.
 pub struct Taken {

@@ -9,8 +9,8 @@ use headend_state::state::fresh;
 use questions::refusal::is_done;
 use questions::settings::Settings;
 use questions::settings::no_settings;
-use replay_text::setup::ReadModem;
-use replay_text::setup::ReadSettings;
+use replay_setup::setup::ReadModem;
+use replay_setup::setup::ReadSettings;
 
 // The line that comes next: one of the four of set-up, or a call; or the run is over.
 pub enum Stage {

@@ -4,7 +4,7 @@
 ghost use mathlib.Core.Path.{_≡_};
 ghost use Prim.Native.Nat.{_≤_};
 ghost use lib.ListN.{length};
-ghost use Rattle.schedule_table.specs.Schedule.{outputOf};
+ghost use Rattle.schedule_text.specs.Schedule.{outputOf};
 ghost use Rattle.schedule_table.specs.Print.{Steady, startOf, fillOf};
 ghost use Rattle.schedule_io.specs.Sent.{Sends, SendsSome};
 use libc::STDIN_FILENO;

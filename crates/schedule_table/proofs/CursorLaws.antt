@@ -21,12 +21,12 @@ use Rattle.association.specs.Mint.{mintOf}
 use Rattle.association.specs.Record.{Rollable}
 use Rattle.association.specs.Listing.{freshOf}
 use Rattle.association.proofs.RollLaws.{roll-one, number-after}
-use Rattle.schedule_table.specs.declared.input.Asked.{Asked}
-use Rattle.schedule_table.specs.declared.input.Input.{Input}
-use Rattle.schedule_table.specs.declared.input.Input.the-variants.{Table}
+use Rattle.schedule_text.specs.declared.input.Asked.{Asked}
+use Rattle.schedule_text.specs.declared.input.Input.{Input}
+use Rattle.schedule_text.specs.declared.input.Input.the-variants.{Table}
 use Rattle.schedule_table.specs.declared.print.Cursor.{Cursor}
 use Rattle.schedule_table.specs.declared.print.Printed.{Printed}
-use Rattle.schedule_table.specs.Schedule.{zeros, halfLife, header, askedFits, inputOf}
+use Rattle.schedule_text.specs.Schedule.{zeros, halfLife, header, askedFits, inputOf}
 use Rattle.schedule_table.specs.Print.{Steady, Part, nothingAsked, cursorOf, nextOf, keyRow, newerRow, printedOf, startFor, startOf, partWhen, fillFor, fillOf}
 use Rattle.keys.proofs.StoreLaws.{sets-append, sets-front, then-put, put-as}
 

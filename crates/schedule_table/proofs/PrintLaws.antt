@@ -15,13 +15,13 @@ use Rattle.text.specs.Decimal.{limit}
 use Rattle.text.proofs.DecimalLaws.{decimal-length-high}
 use Rattle.association.specs.Listing.{freshOf}
 use Rattle.association.specs.Made.{Line, Made, madeAt, pushed, keysMadeFrom}
-use Rattle.schedule_table.specs.declared.input.Asked.{Asked}
-use Rattle.schedule_table.specs.declared.input.Input.{Input}
-use Rattle.schedule_table.specs.declared.input.Input.the-variants.{Table, Refused}
+use Rattle.schedule_text.specs.declared.input.Asked.{Asked}
+use Rattle.schedule_text.specs.declared.input.Input.{Input}
+use Rattle.schedule_text.specs.declared.input.Input.the-variants.{Table, Refused}
 use Rattle.schedule_table.specs.declared.print.Cursor.{Cursor}
-use Rattle.schedule_table.specs.Schedule.{zeros, everyHalf, rowOctets, rowsOf, tableOf, outputFor, outputOf, inputOf}
+use Rattle.schedule_text.specs.Schedule.{zeros, everyHalf, rowOctets, rowsOf, tableOf, outputFor, outputOf, inputOf}
 use Rattle.schedule_table.specs.Print.{Steady, Part, nothingAsked, cursorOf, nextOf, newerRow, startFor, startOf, partWhen, fillFor, fillOf, lineOf, restOf, repeated}
-use Rattle.schedule_table.proofs.InputLaws.{table-is}
+use Rattle.schedule_text.proofs.InputLaws.{table-is}
 use Rattle.schedule_table.proofs.CursorLaws.{first-steady, number-next, deadline-next, next-steady, fill-next, refused-fits}
 
 -- ---- what the clock calls make, one key a call

@@ -10,12 +10,12 @@ use Rattle.keys.specs.declared.traffic.TrafficKey.{TrafficKey}
 use Rattle.association.specs.Listing.{freshOf}
 use Rattle.association.specs.Made.{Made, Line, keysMadeFrom}
 use Rattle.association.specs.Roll.{rolledOf}
-use Rattle.schedule_table.specs.declared.input.Asked.{Asked}
-use Rattle.schedule_table.specs.declared.input.Input.{Input}
-use Rattle.schedule_table.specs.declared.input.Input.the-variants.{Table, Refused}
+use Rattle.schedule_text.specs.declared.input.Asked.{Asked}
+use Rattle.schedule_text.specs.declared.input.Input.{Input}
+use Rattle.schedule_text.specs.declared.input.Input.the-variants.{Table, Refused}
 use Rattle.schedule_table.specs.declared.print.Cursor.{Cursor}
 use Rattle.schedule_table.specs.declared.print.Printed.{Printed}
-use Rattle.schedule_table.specs.Schedule.{zeros, halfLife, everyHalf, rowOctets, rowsOf, header, inputOf}
+use Rattle.schedule_text.specs.Schedule.{zeros, halfLife, everyHalf, rowOctets, rowsOf, header, inputOf}
 
 -- ---- the cursor
 

@@ -5,18 +5,18 @@ ghost use Prim.Native.Nat.{_+_, _≤_};
 ghost use lib.ListN.{length};
 ghost use Rattle.keys.specs.Put.{Put};
 ghost use Rattle.keys.specs.Octets.{overlay};
-ghost use Rattle.schedule_table.specs.Schedule.{askedFits};
-ghost use Rattle.schedule_table.specs.declared.input.Input.the-variants.{Table, Refused};
+ghost use Rattle.schedule_text.specs.Schedule.{askedFits};
+ghost use Rattle.schedule_text.specs.declared.input.Input.the-variants.{Table, Refused};
 ghost use Rattle.schedule_table.specs.Print.{Steady, cursorOf, nextOf, startFor, startOf, fillOf, printedOf, newerRow};
-use crate::input::Asked;
-use crate::input::Input;
-use crate::input::read;
-use crate::row::put_header;
-use crate::row::put_row;
 use association::listing::Listing;
 use association::listing::listed;
 use association::record::Assoc;
-use association::roll::rolled;
+use rolling::roll::rolled;
+use schedule_text::input::Asked;
+use schedule_text::input::Input;
+use schedule_text::input::read;
+use schedule_text::row::put_header;
+use schedule_text::row::put_row;
 
 // Where the table stands: the record as the engine makes it, the generation of its newer key, the second of the last call, and
 // how many clock calls are left.

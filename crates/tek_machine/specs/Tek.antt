@@ -1,31 +1,19 @@
 -- What an event does to a TEK machine (document 01, "Modem: TEK machine, one per SAID").
 use Prim.Native.Nat.{ℕ, _+_, _-_, _≤_}
-use mathlib.Core.Bool.{Bool, cond, _&&_, _||_, not}
+use mathlib.Core.Bool.{cond, _||_}
 use lib.Dec.{eqb}
 use Rattle.keys.specs.declared.numbers.AkNumber.{AkNumber}
-use Rattle.keys.specs.declared.traffic.TrafficKey.{TrafficKey}
-use Rattle.keys.specs.Traffic.{noKey}
 use Rattle.wire.specs.declared.fields.Params.{Params}
 use Rattle.machines.specs.declared.timer.Timer.{Timer}
-use Rattle.tek_machine.specs.declared.tek.Pair.{Pair}
+use Rattle.tek_parts.specs.declared.parts.Pair.{Pair}
 use Rattle.tek_machine.specs.declared.tek.Tek.{Tek}
-use Rattle.tek_machine.specs.declared.tek.Request.{Request}
+use Rattle.tek_parts.specs.declared.parts.Request.{Request}
 use Rattle.tek_machine.specs.declared.tek.TekMoment.{TekMoment}
 use Rattle.tek_machine.specs.declared.tek.TekStep.{TekStep}
 use Rattle.machines.specs.Transitions.{B, D, E, blank, tekNext}
 use Rattle.machines.specs.Identifier.{nextIdentifier}
 use Rattle.machines.specs.Timers.{off, setAt}
-
--- Each transition into B or E sends a Key Request
-abbrev pub sendsInto : ℕ → Bool
-sendsInto to = eqb to B || eqb to E
-
--- A resend is a timeout; it keeps the Identifier, and every other request takes a new one
-abbrev pub takesNew : ℕ → ℕ → Bool
-takesNew event to = sendsInto to && not (eqb event 6)
-
-unfoldable pub counterAfter : ℕ → ℕ → ℕ → ℕ
-counterAfter event to counter = cond (takesNew event to) (nextIdentifier counter) counter
+use Rattle.tek_parts.specs.TekParts.{sendsInto, takesNew, counterAfter, noPair, pairOf, nothing}
 
 unfoldable pub identifierAfter : ℕ → ℕ → Tek → TekMoment → ℕ
 identifierAfter event to t x = cond (takesNew event to) (nextIdentifier (x .counter)) (t .identifier)
@@ -40,26 +28,12 @@ tekTimer to x newer =
 
 -- ---- keys
 
-abbrev pub noPair : Pair
-noPair = record { held = 0; older = noKey; newer = noKey }
-
--- A key of a Key Reply, with the deadline now + its life
-abbrev pub keyOf : ℕ → Params → TrafficKey
-keyOf clock p = record { number = p .number; deadline = clock + p .life; tek = p .tek .octets; vector = p .vector .octets }
-
-abbrev pub pairOf : ℕ → Params → Params → Pair
-pairOf clock older newer = record { held = 1; older = keyOf clock older; newer = keyOf clock newer }
-
 -- Events 1, 5 and 9 drop the keys; event 8 stores the pair
 unfoldable pub pairAfter : ℕ → Tek → ℕ → Params → Params → Pair
 pairAfter event t clock older newer =
     cond (eqb event 1 || eqb event 5 || eqb event 9) noPair
     (cond (eqb event 8) (pairOf clock older newer)
     (t .pair))
-
--- ---- messages
-abbrev pub nothing : Request
-nothing = record { code = 0; identifier = 0; ak = record { 0 = 0 }; said = 0 }
 
 -- A Key Request names the authorization key of the last Reply
 abbrev pub keyRequest : ℕ → AkNumber → ℕ → Request

@@ -42,10 +42,10 @@ use denote.Exit.{yes}
 use Rattle.association.specs.declared.record.Assoc.{Assoc}
 use Rattle.association.proofs.record.Assoc as T
 use Rattle.association.proofs.record.Assoc.Laws as T′
-use Rattle.association.proofs.roll.rolled as rolled′
-use Rattle.association.proofs.roll.rolled.Symbol as rolled-def
-use Rattle.association.proofs.roll.rolled.Symbol.{name as #association·roll·rolled}
-use Rattle.association.proofs.roll.rolled.Met as rolled-thm
+use Rattle.rolling.proofs.roll.rolled as rolled′
+use Rattle.rolling.proofs.roll.rolled.Symbol as rolled-def
+use Rattle.rolling.proofs.roll.rolled.Symbol.{name as #rolling·roll·rolled}
+use Rattle.rolling.proofs.roll.rolled.Met as rolled-thm
 use Rattle.association.specs.Record.{Rollable}
 use Rattle.association.specs.Roll.{rolledOf}
 use Rattle.records.specs.Records.{none, RollFit, rolledTo}
@@ -167,7 +167,7 @@ module _ {M : Type 1} (𝓤 : URA M) (H : Heap 𝓤) (A : Atoms 𝓤) (W : Given
   Nearer-wf : WellFounded Nearer
   Nearer-wf = InvImage·wf (λ (i : Upto). used - i .0) (Nat·lt-wfRel .wf)
 
-  module _ (𝓣 : Tables 𝓤 H) (known : Triple 𝓤 (𝓣 .C #association·roll·rolled) (Rolled 𝓤 H A mem run)) (l₀ l₁ l₂ l₃ l₄ l₅ l₆ l₇ l₈ l₉ l₁₀ l₁₁ l₁₂ l₁₃ l₁₄ : ℕ) where
+  module _ (𝓣 : Tables 𝓤 H) (known : Triple 𝓤 (𝓣 .C #rolling·roll·rolled) (Rolled 𝓤 H A mem run)) (l₀ l₁ l₂ l₃ l₄ l₅ l₆ l₇ l₈ l₉ l₁₀ l₁₁ l₁₂ l₁₃ l₁₄ : ℕ) where
     abbrev C : Calls 𝓤 H
     C = 𝓣 .C
 
@@ -284,7 +284,7 @@ module _ {M : Type 1} (𝓤 : URA M) (H : Heap 𝓤) (A : Atoms 𝓤) (W : Given
     begins =
         first ! $ blocks ! $ loops ! 𝓣 Nearer Nearer-wf At (λ i. turn-at i (less-or-not (i .0) used)) (0, zero-le)
 
-  walk : (𝓣 : Tables 𝓤 H) → Triple 𝓤 (𝓣 .C #association·roll·rolled) (Rolled 𝓤 H A mem run) → ent 𝓤 (onEntry 𝓤 H A roll₀.signature (κ, (μ, tt)) (q, (p, tt)) a vals) (WpFn 𝓤 H (𝓣 .C) (𝓣 .Λ) code.function (records-val ∷ (vint w64 used) ∷ (vint w64 half) ∷ (vint w64 t) ∷ material-val ∷ []) Post)
+  walk : (𝓣 : Tables 𝓤 H) → Triple 𝓤 (𝓣 .C #rolling·roll·rolled) (Rolled 𝓤 H A mem run) → ent 𝓤 (onEntry 𝓤 H A roll₀.signature (κ, (μ, tt)) (q, (p, tt)) a vals) (WpFn 𝓤 H (𝓣 .C) (𝓣 .Λ) code.function (records-val ∷ (vint w64 used) ∷ (vint w64 half) ∷ (vint w64 t) ∷ material-val ∷ []) Post)
   walk 𝓣 known =
       qed W ((‵ (flft κ q) ⊛ (‵ (flft μ p) ⊛ ‵ ftrue)) ∷ ‵ (owns (MutSlice (named 0) κ T.the-row ∷ usize ∷ u64 ∷ u64 ∷ ShrSlice (named 1) μ u8 ∷ []) a vals) ∷ []) ∵ enter ! (𝓣 .C) (𝓣 .Λ) code.function (records-val ∷ (vint w64 used) ∷ (vint w64 half) ∷ (vint w64 t) ∷ material-val ∷ []) _ $
       alloc1 ! (λ l₀. alloc1 ! (λ l₁. alloc1 ! (λ l₂. alloc1 ! (λ l₃. alloc1 ! (λ l₄. alloc1 ! (λ l₅. alloc1 ! (λ l₆. alloc1 ! (λ l₇. alloc1 ! (λ l₈. alloc1 ! (λ l₉. alloc1 ! (λ l₁₀. alloc1 ! (λ l₁₁. alloc1 ! (λ l₁₂. alloc1 ! (λ l₁₃. alloc1 ! (λ l₁₄. alloc0 ! $ params1 ! $
@@ -295,13 +295,13 @@ module _ {M : Type 1} (𝓤 : URA M) (H : Heap 𝓤) (A : Atoms 𝓤) (W : Given
       begins 𝓣 known l₀ l₁ l₂ l₃ l₄ l₅ l₆ l₇ l₈ l₉ l₁₀ l₁₁ l₁₂ l₁₃ l₁₄)))))))))))))))
 
 module _ {M : Type 1} (𝓤 : URA M) (H : Heap 𝓤) (A : Atoms 𝓤) (W : Given 𝓤 H A) (mem : Memory → SProp 𝓤) (run : Routine → Fun 𝓤) where
-  roll-walks : (𝓣 : Tables 𝓤 H) → Triple 𝓤 (𝓣 .C #association·roll·rolled) (Rolled 𝓤 H A mem run) → Walks 𝓤 H A roll₀.ended stayed (WpFn 𝓤 H (𝓣 .C) (𝓣 .Λ) code.function) (roll₀.clauses 𝓤 H A mem run)
+  roll-walks : (𝓣 : Tables 𝓤 H) → Triple 𝓤 (𝓣 .C #rolling·roll·rolled) (Rolled 𝓤 H A mem run) → Walks 𝓤 H A roll₀.ended stayed (WpFn 𝓤 H (𝓣 .C) (𝓣 .Λ) code.function) (roll₀.clauses 𝓤 H A mem run)
   roll-walks 𝓣 known-rolled = walked 𝓤 H A roll₀.ended stayed (roll₀.clauses 𝓤 H A mem run) (WpFn 𝓤 H (𝓣 .C) (𝓣 .Λ) code.function)
       (λ κs. (slice-vals, (uint-vals w64, (uint-vals w64, (uint-vals w64, (slice-vals, tt)))))) (λ κs. (mut-slice-tells (named 0) (κs .0) T.the-row, (uint-tells w64, (uint-tells w64, (uint-tells w64, (shr-slice-tells (named 1) (κs .1 .0) u8, tt))))))
       (λ κs qs bounds a g are. needs 𝓤 (RollFit (a .1 .0) (a .1 .1 .0) (a .1 .1 .1 .0) (a .0 .now) (length (a .1 .1 .1 .1 .0 .now))) _ (λ fit.
       walk 𝓤 H A W mem run (κs .0) (κs .1 .0) (qs .0) (qs .1 .0) (a .0 .ptr .0) (a .0 .ptr .1) (a .0 .name) (a .0 .now) (a .1 .0) (a .1 .1 .0) (a .1 .1 .1 .0) (a .1 .1 .1 .1 .0) (are .0 .0 .1) (are .1 .0 .1) (are .1 .1 .0 .1) (are .1 .1 .1 .0 .1) (are .1 .1 .1 .1 .0 .0 .1) fit 𝓣 known-rolled))
 
-roll-meets : {M : Type 1} (𝓤 : URA M) (H : Heap 𝓤) (A : Atoms 𝓤) → Given 𝓤 H A → (mem : Memory → SProp 𝓤) (run : Routine → Fun 𝓤) (𝓣 : Tables 𝓤 H) → Triple 𝓤 (𝓣 .C #association·roll·rolled) (Rolled 𝓤 H A mem run)
+roll-meets : {M : Type 1} (𝓤 : URA M) (H : Heap 𝓤) (A : Atoms 𝓤) → Given 𝓤 H A → (mem : Memory → SProp 𝓤) (run : Routine → Fun 𝓤) (𝓣 : Tables 𝓤 H) → Triple 𝓤 (𝓣 .C #rolling·roll·rolled) (Rolled 𝓤 H A mem run)
     → Meets 𝓤 H A roll₀.signature (WpFn 𝓤 H (𝓣 .C) (𝓣 .Λ) code.function) (roll₀.spec 𝓤 H A mem run)
 roll-meets 𝓤 H A W mem run 𝓣 known-rolled =
     walk-meets 𝓤 H A roll₀.ended stayed W (goes-slice 𝓤 H A W 2 0 tt (plain (λ _. T.the-row)), (goes-none 𝓤 H A W 2 (λ _. usize) yes (λ κs x f. refl), (goes-none 𝓤 H A W 2 (λ _. u64) yes (λ κs x f. refl), (goes-none 𝓤 H A W 2 (λ _. u64) yes (λ κs x f. refl), (goes-none-slice 𝓤 H A W 2 (1 ∷ []) tt (plain (λ _. u8)) yes, tt))))) (roll₀.clauses 𝓤 H A mem run)
@@ -313,4 +313,4 @@ roll-spec 𝓤 H 𝓜 𝓖 𝓡 =
     entered 𝓤 H (tripleOf 𝓤 H (𝓖 .A) roll₀.signature (roll₀.spec 𝓤 H (𝓖 .A) (𝓜 .mem) (𝓡 .run)))
     (tables 𝓤 H 𝓜 𝓡 code.env .C) (tables 𝓤 H 𝓜 𝓡 code.env .Λ) #here code.function (code.unfolded 𝓤 H 𝓜 𝓡)
     (roll-meets 𝓤 H (𝓖 .A) (givenOf 𝓤 H 𝓜 𝓖) (𝓜 .mem) (𝓡 .run) (tablesOf 𝓤 H 𝓜 (tables 𝓤 H 𝓜 𝓡 code.env))
-    (cited 𝓤 H (Rolled 𝓤 H (𝓖 .A) (𝓜 .mem) (𝓡 .run)) 𝓜 𝓡 code.env #association·roll·rolled rolled-def.routine code.calls-association·roll·rolled (rolled-thm.met 𝓤 H 𝓜 𝓖 𝓡)))
+    (cited 𝓤 H (Rolled 𝓤 H (𝓖 .A) (𝓜 .mem) (𝓡 .run)) 𝓜 𝓡 code.env #rolling·roll·rolled rolled-def.routine code.calls-rolling·roll·rolled (rolled-thm.met 𝓤 H 𝓜 𝓖 𝓡)))

@@ -60,7 +60,7 @@ use Rattle.headend.proofs.frames.open.Met as open-thm
 use Rattle.apply_held.proofs.ArrayLent.{array-shown, array-home, Part}
 use Rattle.keys.specs.Octets.{overlay}
 use Rattle.headend_frames.specs.FrameCalled.{openCalled}
-use Rattle.headend_rules.specs.FrameCalls.{openOf}
+use Rattle.headend_frames.specs.FrameCalls.{openOf}
 use Rattle.apply_held.proofs.held.open_held.Key.{name as #here}
 use Rattle.apply_held.proofs.held.open_held as open-held₀
 use Rattle.apply_held.proofs.held.open_held.Statement as stated

@@ -57,7 +57,7 @@ use Rattle.headend.proofs.frames.seal.Met as seal-thm
 use Rattle.apply_held.proofs.ArrayLent.{array-shown, array-home, Part}
 use Rattle.keys.specs.Octets.{overlay}
 use Rattle.keys.specs.Sealing.{sealCalled}
-use Rattle.headend_rules.specs.FrameCalls.{sealOf}
+use Rattle.headend_frames.specs.FrameCalls.{sealOf}
 use Rattle.apply_held.proofs.held.seal_held.Key.{name as #here}
 use Rattle.apply_held.proofs.held.seal_held as seal-held₀
 use Rattle.apply_held.proofs.held.seal_held.Statement as stated

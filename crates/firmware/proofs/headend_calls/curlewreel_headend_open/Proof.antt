@@ -65,7 +65,7 @@ use Rattle.for_c.proofs.headend_values.headend_opening.Symbol as headend-openin
 use Rattle.for_c.proofs.headend_values.headend_opening.Symbol.{name as #for-c·headend-values·headend-opening}
 use Rattle.for_c.proofs.headend_values.headend_opening.Met as headend-opening-thm
 use Rattle.keys.specs.Octets.{overlay}
-use Rattle.headend_rules.specs.FrameCalls.{openOf}
+use Rattle.headend_frames.specs.FrameCalls.{openOf}
 use Rattle.headend_frames.specs.FrameCalled.{openCalled}
 use Rattle.for_c.specs.HeadEndCalls.{headEndOpening}
 use Rattle.firmware.proofs.headend_calls.curlewreel_headend_open.Key.{name as #here}

@@ -59,7 +59,7 @@ use Rattle.for_c.proofs.modem_values.frame_sealed.Symbol.{name as #for-c·modem
 use Rattle.for_c.proofs.modem_values.frame_sealed.Met as frame-sealed-thm
 use Rattle.keys.specs.Octets.{overlay}
 use Rattle.keys.specs.Sealing.{sealCalled}
-use Rattle.headend_rules.specs.FrameCalls.{sealOf}
+use Rattle.headend_frames.specs.FrameCalls.{sealOf}
 use Rattle.for_c.specs.ModemCalls.{frameSealed}
 use Rattle.firmware.proofs.headend_calls.curlewreel_headend_seal.Key.{name as #here}
 use Rattle.firmware.proofs.headend_calls.curlewreel_headend_seal as curlewreel-headend-seal₀

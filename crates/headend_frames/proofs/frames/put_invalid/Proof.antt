@@ -9,7 +9,7 @@ use Rattle.keys.specs.declared.numbers.AkNumber.{AkNumber}
 use Rattle.keys.specs.Octets.{overlay}
 use Rattle.wire.specs.declared.fields.Fields.{Fields}
 use Rattle.headend_steps.specs.Receive.{Writable}
-use Rattle.headend_answers.specs.Answers.{errorAnswer}
+use Rattle.answer_fields.specs.AnswerFields.{errorAnswer}
 use Rattle.headend_frames.proofs.FrameCallLaws.{tek-invalid-writable, none-invalid, one-invalid}
 use Rattle.headend_frames.proofs.frames.put_invalid.Statement.{statement}
 use Rattle.headend_frames.proofs.frames.put_invalid.Tie as tie

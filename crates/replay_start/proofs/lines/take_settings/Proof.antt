@@ -2,7 +2,7 @@
 use mathlib.Core.Path.{_∙_, ap}
 use lib.ListN.{length}
 use Rattle.keys.specs.Octets.{overlay}
-use Rattle.replay_text.specs.declared.setup.ReadSettings.{ReadSettings}
+use Rattle.replay_setup.specs.declared.setup.ReadSettings.{ReadSettings}
 use Rattle.replay_start.specs.Replay.{settingsRead, startText}
 use borrow.Author.Needs.{needs}
 use Rattle.replay_start.proofs.lines.take_settings.Statement.{statement}

@@ -1,0 +1,23 @@
+-- `answer_fields::fields::key_reply` meets its contract.
+use borrow.Author.Needs.{needs}
+use Rattle.answer_fields.proofs.fields.key_reply.Statement.{statement}
+use Rattle.answer_fields.proofs.fields.key_reply.Tie as tie
+
+width-requires : tie.Need-width-requires
+width-requires c κs = search needs
+
+params-at-requires : tie.Need-params-at-requires
+params-at-requires c κs = search needs
+
+params-at-requires-2 : tie.Need-params-at-requires-2
+params-at-requires-2 c κs = search needs
+
+no-descriptors-requires : tie.Need-no-descriptors-requires
+no-descriptors-requires c κs = search needs
+
+returns : tie.Need-returns
+returns c = cc
+
+pub key-reply-spec : {M : Type 1} → statement M
+key-reply-spec =
+    tie.close (tie.spec width-requires params-at-requires params-at-requires-2 no-descriptors-requires returns)

@@ -1,0 +1,23 @@
+-- `headend_frame_questions::asked::held_suits` meets its contract.
+use borrow.Author.Needs.{needs}
+use Rattle.headend_frame_questions.specs.FrameQuestions.{heldSuits}
+use Rattle.headend_frame_questions.proofs.asked.held_suits.Statement.{statement}
+use Rattle.headend_frame_questions.proofs.asked.held_suits.Tie as tie
+
+is-own-requires : tie.Need-is-own-requires
+is-own-requires c κs = search needs
+
+found-suits-requires : tie.Need-found-suits-requires
+found-suits-requires c κs = search needs
+
+returns : tie.Need-returns
+unfolding heldSuits
+returns c = cc
+
+pub held-suits-spec : {M : Type 1} → statement M
+held-suits-spec =
+    tie.close
+    (tie.spec
+    is-own-requires
+    found-suits-requires
+    returns)

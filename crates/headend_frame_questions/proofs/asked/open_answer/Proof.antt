@@ -1,0 +1,55 @@
+-- `headend_frame_questions::asked::open_answer` meets its contract.
+use borrow.Author.Needs.{needs}
+use Rattle.headend_frame_questions.specs.FrameQuestions.{openAnswer}
+use Rattle.headend_frame_questions.proofs.asked.open_answer.Statement.{statement}
+use Rattle.headend_frame_questions.proofs.asked.open_answer.Tie as tie
+
+entry-of-requires : tie.Need-entry-of-requires
+entry-of-requires c κs = search needs
+
+frame-fits-requires : tie.Need-frame-fits-requires
+frame-fits-requires c κs = search needs
+
+tek-in-range-requires : tie.Need-tek-in-range-requires
+tek-in-range-requires c κs = search needs
+
+is-serving-requires : tie.Need-is-serving-requires
+is-serving-requires c κs = search needs
+
+is-serving-requires-2 : tie.Need-is-serving-requires-2
+is-serving-requires-2 c κs = search needs
+
+ask-requires : tie.Need-ask-requires
+ask-requires c κs = search needs
+
+is-own-requires : tie.Need-is-own-requires
+is-own-requires c κs = search needs
+
+ask-requires-2 : tie.Need-ask-requires-2
+ask-requires-2 c κs = search needs
+
+ask-requires-3 : tie.Need-ask-requires-3
+ask-requires-3 c κs = search needs
+
+ask-requires-4 : tie.Need-ask-requires-4
+ask-requires-4 c κs = search needs
+
+returns : tie.Need-returns
+unfolding openAnswer
+returns c = simp (c .ask4 .ensures, c .before .ask3 .ensures, c .before .before .ask2 .ensures, c .before .before .before .is-own .ensures, c .before .before .before .before .ask .ensures, c .before .before .before .before .before .is-serving2 .ensures, c .before .before .before .before .before .before .is-serving .ensures, c .before .before .before .before .before .before .before .before .tek-in-range .ensures, c .before .before .before .before .before .before .before .before .before .frame-fits .ensures, c .before .before .before .before .before .before .before .before .before .before .entry-of .ensures)
+
+pub open-answer-spec : {M : Type 1} → statement M
+open-answer-spec =
+    tie.close
+    (tie.spec
+    entry-of-requires
+    frame-fits-requires
+    tek-in-range-requires
+    is-serving-requires
+    is-serving-requires-2
+    ask-requires
+    is-own-requires
+    ask-requires-2
+    ask-requires-3
+    ask-requires-4
+    returns)

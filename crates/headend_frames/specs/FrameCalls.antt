@@ -1,0 +1,21 @@
+-- Sealing and opening at the head-end over the lent records.
+use mathlib.Core.List.{List}
+use Prim.Native.Nat.{ℕ}
+use lib.ListN.{length}
+use Rattle.keys.specs.declared.numbers.TekNumber.{TekNumber}
+use Rattle.keys.specs.Sealing.{Sealed}
+use Rattle.association.specs.declared.record.Assoc.{Assoc}
+use Rattle.association.specs.declared.search.Probe.the-variants.{OfSaid}
+use Rattle.records.specs.Records.{firstOf, lookupOf}
+use Rattle.headend_state.specs.declared.state.HeadEnd.{HeadEnd}
+use Rattle.headend_limits.specs.Search.{outOfLimits}
+use Rattle.headend_frames.specs.Frames.{sealedWith, HeadOpened, openedWith}
+
+-- A frame for a modem's address and a SAID, with the lengths of the slices for TEK and vector
+abbrev pub sealOf : HeadEnd → List Assoc → ℕ → ℕ → ℕ → ℕ → Sealed
+sealOf h xs address said tek vector = sealedWith h (firstOf (outOfLimits h) xs) (length xs) (lookupOf (OfSaid said) xs) address said tek vector
+
+-- A frame with its direction, address, SAID and number
+abbrev pub openOf : HeadEnd → List Assoc → ℕ → ℕ → ℕ → TekNumber → ℕ → ℕ → ℕ → HeadOpened
+openOf h xs direction address said number tek vector lent =
+    openedWith h (firstOf (outOfLimits h) xs) (length xs) (lookupOf (OfSaid said) xs) direction address said number tek vector lent

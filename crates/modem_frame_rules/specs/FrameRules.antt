@@ -1,0 +1,36 @@
+-- Questions 13 and 14 of a pair of keys, and the counts of frames, at the modem.
+use mathlib.Core.Bool.{Bool, _&&_, _||_}
+use Prim.Native.Nat.{ℕ}
+use lib.Dec.{ltb, eqb}
+use Rattle.keys.specs.declared.numbers.TekNumber.{TekNumber}
+use Rattle.keys.specs.Frame.{serves}
+use Rattle.keys.specs.Sealing.{oneMore, countedAs}
+use Rattle.tek_parts.specs.declared.parts.Pair.{Pair}
+use Rattle.modem_steps.specs.declared.state.Modem.{Modem}
+
+-- Questions 14 and 13 of a pair: a key counts while its deadline is after the clock
+abbrev pub pairSeals : ℕ → Pair → Bool
+pairSeals clock p = eqb (p .held) 1 && ltb clock (p .newer .deadline)
+
+abbrev pub pairOpens : ℕ → TekNumber → Pair → Bool
+pairOpens clock number p = eqb (p .held) 1 && (serves clock number (p .older) || serves clock number (p .newer))
+
+-- The modem with other counts of frames
+abbrev pub withCounts : Modem → ℕ → ℕ → Modem
+withCounts m taken refused =
+    record {
+      settings = m .settings;
+      address = m .address;
+      said = m .said;
+      clock = m .clock;
+      counter = m .counter;
+      authorization = m .authorization;
+      used = m .used;
+      teks = m .teks;
+      taken = taken;
+      refused = refused;
+    }
+
+-- The modem after an opening that is answered with document 01's number n
+unfoldable pub countedBy : ℕ → Modem → Modem
+countedBy n m = countedAs n (withCounts m (oneMore (m .taken)) (m .refused)) (withCounts m (m .taken) (oneMore (m .refused))) m

@@ -1,0 +1,153 @@
+-- Laws of what was written at the front of a lent slice, of an answer, and of a line by the call that it says.
+use mathlib.Core.Path.{_≡_, refl, sym, _∙_, ap, subst}
+use mathlib.Core.Bool.{true, false}
+use mathlib.Core.List.{List, [], _∷_, _++_}
+use mathlib.Core.Option.{Option, none, some}
+use Prim.Native.Nat.{ℕ, _+_, _*_, _≤_, _<_}
+use native.Mathlib.Omega.{arith}
+use lib.ListN.{length, take, drop, replicate, length-append, length-drop}
+use borrow.Author.Tests.{lt-leb}
+use Rattle.keys.specs.Octets.{overlay}
+use lib.Seq.{length-take-le}
+use Rattle.calls.specs.declared.Kind.{Kind}
+use Rattle.calls.specs.declared.Call.{Call}
+use Rattle.plant.specs.World.{Step}
+use Rattle.replay_call.specs.declared.call.ReadCall.{ReadCall}
+use Rattle.line_fields.specs.declared.octets.Place.{Place}
+use Rattle.replay_answer.specs.Answer.{answerText, Room}
+use Rattle.hex_text.proofs.HexLaws.{octets-length}
+use Rattle.line_fields.specs.Fields.{isLine}
+use Rattle.hex_text.specs.Hex.{octetsOf}
+use Rattle.replay_call.specs.Call.{Told, callOf}
+use Rattle.replay_call.specs.Reads.{Reads}
+use Rattle.apply_rules.specs.declared.ends.Ends.{Ends}
+use Rattle.apply_rules.specs.declared.ends.Applied.{Applied}
+use Rattle.apply_rules.specs.Steps.{worldOf, stepFor}
+use Rattle.apply_rules.specs.Gave.{gaveOf}
+use Rattle.apply_rules.specs.Applied.{appliedOf}
+use Rattle.replay.specs.declared.turn.Turned.{Turned}
+use Rattle.replay_start.specs.Turn.{noCallText, answeredBy, endsAfter, turnTextFor, turnEndsFor}
+
+-- The octets in front are those that were written
+pub take-front : (w rest : List ℕ) → take (length w) (w ++ rest) ≡ w
+take-front [] rest = refl
+take-front (x ∷ w) rest = ap (λ (l : List ℕ). x ∷ l) (take-front w rest)
+
+-- What was written fits the slice
+written-fits : (lent w after : List ℕ) → after ≡ overlay lent w → length w ≤ length after
+written-fits lent w after e =
+    let parts : length after ≡ length w + length (drop (length w) lent) = ap length e ∙ length-append w (drop (length w) lent) in
+    omega (arith, parts)
+
+-- ---- a call that was applied, with the slices lent to it after it
+module _ (e : Ends) (c : Call) (octets key : List ℕ) (a : Applied) (tek vector sent : List ℕ)
+    (is : a ≡ appliedOf (worldOf e) (stepFor c octets key 16 16 342))
+    (tek-is : tek ≡ overlay (replicate 16 0) (gaveOf (worldOf e) (stepFor c octets key 16 16 342) .out .tek))
+    (vector-is : vector ≡ overlay (replicate 16 0) (gaveOf (worldOf e) (stepFor c octets key 16 16 342) .out .vector))
+    (sent-is : sent ≡ overlay (replicate 342 0) (gaveOf (worldOf e) (stepFor c octets key 16 16 342) .sent)) where
+  abbrev s : Step
+  s = stepFor c octets key 16 16 342
+
+  wide : a .width ≡ length (gaveOf (worldOf e) s .out .tek)
+  wide = ap (λ (y : Applied). y .width) is
+
+  many : a .count ≡ length (gaveOf (worldOf e) s .sent)
+  many = ap (λ (y : Applied). y .count) is
+
+  pub width-fits : a .width ≤ length tek
+  width-fits = let h = written-fits (replicate 16 0) (gaveOf (worldOf e) s .out .tek) tek tek-is in omega (arith, h, wide)
+
+  pub count-fits : a .count ≤ length sent
+  count-fits = let h = written-fits (replicate 342 0) (gaveOf (worldOf e) s .sent) sent sent-is in omega (arith, h, many)
+
+  pub room : (out : List ℕ) → length tek ≡ 16 → length vector ≡ 16 → length sent ≡ 342 → 1024 ≤ length out
+      → Room (take (a .width) tek) (take (a .width) vector) (take (a .count) sent) out
+  room out t v m long =
+      let w = width-fits in
+      let k = count-fits in
+      let lt = length-take-le (a .width) tek w in
+      let lv = length-take-le (a .width) vector (omega (arith, w, t, v)) in
+      let ls = length-take-le (a .count) sent k in
+      record {
+        tek-fits = omega (arith, w, t, lt);
+        vector-fits = omega (arith, w, t, lv);
+        sent-fits = omega (arith, k, m, ls);
+        out-fits = long;
+      }
+
+  tek-shown : take (a .width) tek ≡ gaveOf (worldOf e) s .out .tek
+  tek-shown = ap (λ n. take n tek) wide ∙ ap (take (length (gaveOf (worldOf e) s .out .tek))) tek-is ∙ take-front _ _
+
+  sent-shown : take (a .count) sent ≡ gaveOf (worldOf e) s .sent
+  sent-shown = ap (λ n. take n sent) many ∙ ap (take (length (gaveOf (worldOf e) s .sent))) sent-is ∙ take-front _ _
+
+  vector-shown : take (a .width) vector ≡ take (length (gaveOf (worldOf e) s .out .tek)) (overlay (replicate 16 0) (gaveOf (worldOf e) s .out .vector))
+  vector-shown = ap (λ n. take n vector) wide ∙ ap (take (length (gaveOf (worldOf e) s .out .tek))) vector-is
+
+  pub answer-is : (k : Kind) → answerText k (a .number) (a .key .0) (take (a .width) tek) (take (a .width) vector) (take (a .count) sent) ≡ answeredBy e s k
+  unfolding answeredBy
+  answer-is k =
+      ap (λ (y : Applied). answerText k (y .number) (y .key .0) (take (a .width) tek) (take (a .width) vector) (take (a .count) sent)) is
+      ∙ ap (λ (l : List ℕ). answerText k (appliedOf (worldOf e) s .number) (gaveOf (worldOf e) s .key .0) l (take (a .width) vector) (take (a .count) sent)) tek-shown
+      ∙ ap (λ (l : List ℕ). answerText k (appliedOf (worldOf e) s .number) (gaveOf (worldOf e) s .key .0) (gaveOf (worldOf e) s .out .tek) l (take (a .count) sent)) vector-shown
+      ∙ ap (λ (l : List ℕ). answerText k (appliedOf (worldOf e) s .number) (gaveOf (worldOf e) s .key .0) (gaveOf (worldOf e) s .out .tek)
+      (take (length (gaveOf (worldOf e) s .out .tek)) (overlay (replicate 16 0) (gaveOf (worldOf e) s .out .vector))) l) sent-shown
+
+  pub ends-are : a .ends ≡ endsAfter e s
+  unfolding endsAfter
+  ends-are = ap (λ (y : Applied). y .ends) is
+
+-- ---- a line by what it says
+abbrev Turns : Ends → Option Told → List ℕ → Turned → List ℕ → Type 0
+Turns e o out r after = (r .ends ≡ turnEndsFor e o) × ((r .count ≡ length (turnTextFor e o)) × (after ≡ overlay out (turnTextFor e o)))
+
+-- A line that is too long is no call
+pub too-long : (e : Ends) (line out after : List ℕ) (r : Turned) → 16384 < length line → r ≡ record { count = 2; ends = e } → after ≡ overlay out noCallText
+    → Turns e (callOf line) out r after
+unfolding callOf isLine
+too-long e line out after r h p q = simp (lt-leb (length line) 16384 h) ((ap (λ (y : Turned). y .ends) p, (ap (λ (y : Turned). y .count) p, q)))
+
+-- One that says none is none
+pub says-none : (e : Ends) (line out after : List ℕ) (o : Option Told) (c : ReadCall) (r : Turned) → Reads line o c → c .«is_call» ≡ false
+    → r ≡ record { count = 2; ends = e } → after ≡ overlay out noCallText → Turns e o out r after
+says-none e line out after none c r reads isnt p q = (ap (λ (y : Turned). y .ends) p, (ap (λ (y : Turned). y .count) p, q))
+says-none e line out after (some t) c r reads isnt p q =
+    let z : true ≡ false = sym (reads .told) ∙ isnt in let y : _≡_ {A = ℕ} 0 1 = cc in absurd (omega arith)
+
+-- One that says a call is that call's step, with the octets and the key that it says
+abbrev Answers : Ends → Step → Kind → List ℕ → Turned → List ℕ → Type 0
+Answers e s k out r after = (r .ends ≡ endsAfter e s) × ((r .count ≡ length (answeredBy e s k)) × (after ≡ overlay out (answeredBy e s k)))
+
+abbrev stepRead : ReadCall → List ℕ → Step
+stepRead c line =
+    stepFor (c .call) (octetsOf (take (2 * c .octets .count) (drop (c .octets .at) line))) (octetsOf (take (2 * c .key .count) (drop (c .key .at) line))) 16 16 342
+
+pub says-call : (e : Ends) (line out after : List ℕ) (o : Option Told) (c : ReadCall) (r : Turned) → Reads line o c → c .«is_call» ≡ true
+    → Answers e (stepRead c line) (c .call .kind) out r after → Turns e o out r after
+says-call e line out after none c r reads yes′ h =
+    let z : true ≡ false = sym yes′ ∙ reads .told in let y : _≡_ {A = ℕ} 0 1 = cc in absurd (omega arith)
+says-call e line out after (some t) c r reads yes′ h =
+    let step : stepRead c line ≡ stepFor (t .call) (t .octets) (t .key) 16 16 342 =
+    ap (λ (l : List ℕ). stepFor (c .call) l (octetsOf (take (2 * c .key .count) (drop (c .key .at) line))) 16 16 342) (reads .octets-at .says)
+    ∙ ap (λ (l : List ℕ). stepFor (c .call) (t .octets) l 16 16 342) (reads .key-at .says)
+    ∙ ap (λ (k : Call). stepFor k (t .octets) (t .key) 16 16 342) (reads .call-is) in
+    let told = subst (λ (x : Step). Answers e x (c .call .kind) out r after) step h in
+    subst (λ (k : Kind). Answers e (stepFor (t .call) (t .octets) (t .key) 16 16 342) k out r after) (ap (λ (k : Call). k .kind) (reads .call-is)) told
+
+-- ---- the octets and the key of a line, taken out of it
+octets-taken : (line out : List ℕ) (p : Place) (after : List ℕ) → after ≡ overlay out (octetsOf (take (2 * p .count) (drop (p .at) line)))
+    → p .at + 2 * p .count ≤ length line → take (p .count) after ≡ octetsOf (take (2 * p .count) (drop (p .at) line))
+octets-taken line out p after e h =
+    let w = octetsOf (take (2 * p .count) (drop (p .at) line)) in
+    let n : length w ≡ p .count = octets-length (p .count) (drop (p .at) line) (simp length-drop (omega arith)) in
+    ap (λ k. take k after) (sym n) ∙ ap (take (length w)) e ∙ take-front w (drop (length w) out)
+
+pub told-line : (e : Ends) (line : List ℕ) (c : Call) (o k : Place) (octets key out after : List ℕ) (r : Turned)
+    → octets ≡ overlay (replicate 8192 0) (octetsOf (take (2 * o .count) (drop (o .at) line)))
+    → key ≡ overlay (replicate 8192 0) (octetsOf (take (2 * k .count) (drop (k .at) line)))
+    → o .at + 2 * o .count ≤ length line → k .at + 2 * k .count ≤ length line
+    → Answers e (stepFor c (take (o .count) octets) (take (k .count) key) 16 16 342) (c .kind) out r after
+    → Answers e (stepFor c (octetsOf (take (2 * o .count) (drop (o .at) line))) (octetsOf (take (2 * k .count) (drop (k .at) line))) 16 16 342) (c .kind) out r after
+told-line e line c o k octets key out after r p q h i x =
+    let one = subst (λ (l : List ℕ). Answers e (stepFor c l (take (k .count) key) 16 16 342) (c .kind) out r after) (octets-taken line (replicate 8192 0) o octets p h) x in
+    subst (λ (l : List ℕ). Answers e (stepFor c (octetsOf (take (2 * o .count) (drop (o .at) line))) l 16 16 342) (c .kind) out r after) (octets-taken line (replicate 8192 0) k key q i) one

@@ -1,0 +1,180 @@
+// The line of an answer and the line of the counts, written at the front of a lent slice.
+ghost use mathlib.Core.Path.{_≡_};
+ghost use mathlib.Core.List.{_∷_, []};
+ghost use Prim.Native.Nat.{_+_, _*_, _≤_, _<_};
+ghost use lib.ListN.{length};
+ghost use Rattle.text.specs.Decimal.{numberText};
+ghost use Rattle.keys.specs.Put.{Put};
+ghost use Rattle.keys.specs.Octets.{overlay};
+ghost use Rattle.replay_answer.specs.Answer.{Room, textIf, commaHex, keysText, sealText, openText, restText, answerText, countsText};
+use calls::Kind;
+use hex_text::hex::put_hex;
+use text::decimal::put_decimal;
+
+// One octet.
+fn put_octet(out: &mut [u8], at: usize, x: u8) -> usize
+    requires { ⌜ at < length (now out) ⌝ }
+    ensures { λ r. ⌜ Put (now (out .entry)) at (x ∷ []) r (now (out .exit)) ⌝ }
+    ensures { λ r. ⌜ r ≡ at + 1 ⌝ }
+{
+    out[at] = x;
+    at + 1
+}
+
+// A comma and octets in hexadecimal.
+fn put_comma_hex(out: &mut [u8], at: usize, v: &[u8]) -> usize
+    requires { ⌜ at + 1 + 2 * length (now v) ≤ length (now out) ⌝ }
+    ensures { λ r. ⌜ Put (now (out .entry)) at (commaHex (now (v .entry))) r (now (out .exit)) ⌝ }
+    ensures { λ r. ⌜ r ≡ at + 1 + 2 * length (now (v .entry)) ⌝ }
+{
+    let a = put_octet(out, at, b',');
+    put_hex(out, a, v)
+}
+
+// Octets that are sent, or nothing.
+fn put_sent(out: &mut [u8], at: usize, on: bool, sent: &[u8]) -> usize
+    requires { ⌜ (length (now sent) ≤ 342) × (at + 685 ≤ length (now out)) ⌝ }
+    ensures { λ r. ⌜ Put (now (out .entry)) at (textIf on (commaHex (now (sent .entry)))) r (now (out .exit)) ⌝ }
+    ensures { λ r. ⌜ r ≤ at + 685 ⌝ }
+{
+    if !on {
+        return at;
+    }
+    put_comma_hex(out, at, sent)
+}
+
+// A TEK and a vector.
+fn put_keys(out: &mut [u8], at: usize, tek: &[u8], vector: &[u8]) -> usize
+    requires { ⌜ (length (now tek) ≤ 16) × ((length (now vector) ≤ 16) × (at + 66 ≤ length (now out))) ⌝ }
+    ensures { λ r. ⌜ Put (now (out .entry)) at (keysText (now (tek .entry)) (now (vector .entry))) r (now (out .exit)) ⌝ }
+    ensures { λ r. ⌜ r ≤ at + 66 ⌝ }
+{
+    let a = put_comma_hex(out, at, tek);
+    put_comma_hex(out, a, vector)
+}
+
+fn put_seal(out: &mut [u8], at: usize, number: u8, key: u8, tek: &[u8], vector: &[u8]) -> usize
+    requires { ⌜ (length (now tek) ≤ 16) × ((length (now vector) ≤ 16) × (at + 87 ≤ length (now out))) ⌝ }
+    ensures { λ r. ⌜ Put (now (out .entry)) at (sealText number key (now (tek .entry)) (now (vector .entry))) r (now (out .exit)) ⌝ }
+    ensures { λ r. ⌜ r ≤ at + 87 ⌝ }
+{
+    if number != 0 {
+        return at;
+    }
+    let a = put_octet(out, at, b',');
+    let b = put_decimal(out, a, key as u64);
+    put_keys(out, b, tek, vector)
+}
+
+fn put_keys_if(out: &mut [u8], at: usize, on: bool, tek: &[u8], vector: &[u8]) -> usize
+    requires { ⌜ (length (now tek) ≤ 16) × ((length (now vector) ≤ 16) × (at + 66 ≤ length (now out))) ⌝ }
+    ensures { λ r. ⌜ Put (now (out .entry)) at (textIf on (keysText (now (tek .entry)) (now (vector .entry)))) r (now (out .exit)) ⌝ }
+    ensures { λ r. ⌜ r ≤ at + 66 ⌝ }
+{
+    if !on {
+        return at;
+    }
+    put_keys(out, at, tek, vector)
+}
+
+fn put_open(out: &mut [u8], at: usize, number: u8, tek: &[u8], vector: &[u8], sent: &[u8]) -> usize
+    requires { ⌜ (length (now tek) ≤ 16) × ((length (now vector) ≤ 16) × ((length (now sent) ≤ 342) × (at + 751 ≤ length (now out)))) ⌝ }
+    ensures { λ r. ⌜ Put (now (out .entry)) at (openText number (now (tek .entry)) (now (vector .entry)) (now (sent .entry))) r (now (out .exit)) ⌝ }
+    ensures { λ r. ⌜ r ≤ at + 751 ⌝ }
+{
+    let a = put_keys_if(out, at, number == 0, tek, vector);
+    put_sent(out, a, number == 13, sent)
+}
+
+// What follows an answer's number.
+fn put_rest(
+    out: &mut [u8],
+    at: usize,
+    kind: Kind,
+    number: u8,
+    key: u8,
+    tek: &[u8],
+    vector: &[u8],
+    sent: &[u8],
+) -> usize
+    requires { ⌜ (length (now tek) ≤ 16) × ((length (now vector) ≤ 16) × ((length (now sent) ≤ 342) × (at + 751 ≤ length (now out)))) ⌝ }
+    ensures { λ r. ⌜ Put (now (out .entry)) at (restText kind number key (now (tek .entry)) (now (vector .entry)) (now (sent .entry))) r (now (out .exit)) ⌝ }
+    ensures { λ r. ⌜ r ≤ at + 751 ⌝ }
+{
+    match kind {
+        Kind::List => at,
+        Kind::Clock => put_sent(out, at, number == 0, sent),
+        Kind::Established => put_sent(out, at, number == 0, sent),
+        Kind::Reauth => put_sent(out, at, number == 0, sent),
+        Kind::Up => put_sent(out, at, number == 0, sent),
+        Kind::Down => put_sent(out, at, number == 0, sent),
+        Kind::SealDown => put_seal(out, at, number, key, tek, vector),
+        Kind::SealUp => put_seal(out, at, number, key, tek, vector),
+        Kind::OpenUp => put_open(out, at, number, tek, vector, sent),
+        Kind::OpenDown => put_open(out, at, number, tek, vector, sent),
+    }
+}
+
+// Writes the line of an answer and answers its length.
+pub fn put_answer(
+    kind: Kind,
+    number: u8,
+    key: u8,
+    tek: &[u8],
+    vector: &[u8],
+    sent: &[u8],
+    out: &mut [u8],
+) -> usize
+    requires { ⌜ Room (now tek) (now vector) (now sent) (now out) ⌝ }
+    ensures { λ r. ⌜ now (out .exit) ≡ overlay (now (out .entry)) (answerText kind number key (now (tek .entry)) (now (vector .entry)) (now (sent .entry))) ⌝ }
+    ensures { λ r. ⌜ r ≡ length (answerText kind number key (now (tek .entry)) (now (vector .entry)) (now (sent .entry))) ⌝ }
+    ensures { λ r. ⌜ r ≤ 1024 ⌝ }
+{
+    let a = put_decimal(out, 0, number as u64);
+    let b = put_rest(out, a, kind, number, key, tek, vector, sent);
+    put_octet(out, b, 10)
+}
+
+// A number and the octet after it.
+fn put_number(out: &mut [u8], at: usize, n: u64, after: u8) -> usize
+    requires { ⌜ at + 21 ≤ length (now out) ⌝ }
+    ensures { λ r. ⌜ Put (now (out .entry)) at (numberText n after) r (now (out .exit)) ⌝ }
+    ensures { λ r. ⌜ r ≤ at + 21 ⌝ }
+{
+    let end = put_decimal(out, at, n);
+    out[end] = after;
+    end + 1
+}
+
+// Copies a text to the front.
+fn put_text(out: &mut [u8], text: &[u8]) -> usize
+    requires { ⌜ length (now text) ≤ length (now out) ⌝ }
+    ensures { λ r. ⌜ Put (now (out .entry)) 0 (now (text .entry)) r (now (out .exit)) ⌝ }
+{
+    let mut i: usize = 0;
+    while i < text.len() {
+        out[i] = text[i];
+        i += 1;
+    }
+    i
+}
+
+// Writes the line of the counts and answers its length.
+pub fn put_counts(
+    head_taken: u64,
+    head_refused: u64,
+    modem_taken: u64,
+    modem_refused: u64,
+    out: &mut [u8],
+) -> usize
+    requires { ⌜ 128 ≤ length (now out) ⌝ }
+    ensures { λ r. ⌜ now (out .exit) ≡ overlay (now (out .entry)) (countsText «head_taken» «head_refused» «modem_taken» «modem_refused») ⌝ }
+    ensures { λ r. ⌜ r ≡ length (countsText «head_taken» «head_refused» «modem_taken» «modem_refused») ⌝ }
+    ensures { λ r. ⌜ r ≤ 128 ⌝ }
+{
+    let a = put_text(out, b"frames,");
+    let b = put_number(out, a, head_taken, b',');
+    let c = put_number(out, b, head_refused, b',');
+    let d = put_number(out, c, modem_taken, b',');
+    put_number(out, d, modem_refused, 10)
+}

@@ -1,0 +1,4 @@
+-- Laws that belong to no one function.
+pub mod CallLaws
+pub mod KindLaws
+pub mod Rows

@@ -1,0 +1,4 @@
+-- What the crate's functions answer.
+pub mod Call
+pub mod CallPlaces
+pub mod Reads

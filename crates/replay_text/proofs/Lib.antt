@@ -1,6 +1,0 @@
--- Laws that belong to no one function.
-pub mod AnswerLaws
-pub mod CallLaws
-pub mod KindLaws
-pub mod SetupLaws
-pub mod Rows

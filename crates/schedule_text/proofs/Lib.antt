@@ -1,0 +1,3 @@
+pub mod InputLaws
+pub mod FieldLaws
+pub mod Edges
