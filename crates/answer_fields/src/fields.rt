@@ -7,7 +7,7 @@ use association::listing::Listing;
 use association::record::Assoc;
 use headend_state::authorization::newest;
 use headend_state::state::AuthKeys;
-use keys::numbers::AkNumber;
+use key_numbers::numbers::AkNumber;
 use keys::suites::width;
 use keys::traffic::TrafficKey;
 use wire::fields::Descriptor;

@@ -18,7 +18,7 @@ use apply_rules::ends::quiet;
 use association::record::Assoc;
 use calls::Call;
 use headend_state::state::Called;
-use keys::numbers::TekNumber;
+use key_numbers::numbers::TekNumber;
 use modem_steps::state::Modem;
 use questions::refusal::answer_number;
 

@@ -16,7 +16,7 @@ use headend::frames::seal;
 use headend_frames::frames::OpenedCall;
 use headend_state::state::Called;
 use headend_state::state::HeadEnd;
-use keys::numbers::TekNumber;
+use key_numbers::numbers::TekNumber;
 use keys::sealing::SealedCall;
 
 // What a call that changes records hands back.

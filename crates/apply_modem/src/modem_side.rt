@@ -16,7 +16,7 @@ use apply_rules::ends::refused;
 use association::record::Assoc;
 use calls::Call;
 use headend_state::state::HeadEnd;
-use keys::numbers::TekNumber;
+use key_numbers::numbers::TekNumber;
 use modem::calls::clock;
 use modem::calls::established;
 use modem::calls::reauth;

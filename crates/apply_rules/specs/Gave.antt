@@ -3,7 +3,7 @@
 -- plant's trace have these octets.
 use mathlib.Core.List.{List, []}
 use Prim.Native.Nat.{ℕ}
-use Rattle.keys.specs.declared.numbers.TekNumber.{TekNumber}
+use Rattle.key_numbers.specs.declared.numbers.TekNumber.{TekNumber}
 use Rattle.keys.specs.Sealing.{KeyOut, noOut, Sealed}
 use Rattle.headend_rules.specs.Calls as Head
 use Rattle.headend_frames.specs.FrameCalls as HeadFrames

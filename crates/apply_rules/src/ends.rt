@@ -3,7 +3,7 @@ ghost use mathlib.Core.Path.{_≡_};
 ghost use Rattle.apply_rules.specs.Applied.{quietOf, refusedOf};
 use association::record::Assoc;
 use headend_state::state::HeadEnd;
-use keys::numbers::TekNumber;
+use key_numbers::numbers::TekNumber;
 use modem_steps::state::Modem;
 
 pub struct Ends {

@@ -7,8 +7,8 @@ use mathlib.Core.List.{List}
 use native.Mathlib.Omega.{arith}
 use lib.Dec.{leb, ltb, eqb}
 use borrow.Author.Tests.{le-ltb, lt-ltb, le-leb, eq-eqb, ne-eqb, ltb-true, leb-true, eqb-true}
-use Rattle.keys.specs.declared.numbers.TekNumber.{TekNumber}
-use Rattle.keys.specs.Numbers.{tekInRange, afterOf, tekNumber}
+use Rattle.key_numbers.specs.declared.numbers.TekNumber.{TekNumber}
+use Rattle.key_numbers.specs.Numbers.{tekInRange, afterOf, tekNumber}
 use Rattle.keys.specs.Suites.{suiteKnown, widthOf}
 use Rattle.keys.specs.Traffic.{keyFits, follows}
 use Rattle.questions.proofs.TestLaws.{sub-leb, sub-eqb, both}

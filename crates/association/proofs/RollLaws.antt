@@ -6,9 +6,9 @@ use mathlib.Core.List.{List}
 use native.Mathlib.Omega.{arith}
 use lib.Dec.{ltb}
 use borrow.Author.Tests.{lt-ltb, le-ltb}
-use Rattle.keys.specs.Numbers.{afterOf, tekNumber}
+use Rattle.key_numbers.specs.Numbers.{afterOf, tekNumber}
 use Rattle.keys.specs.Suites.{widthOf}
-use Rattle.keys.specs.declared.numbers.TekNumber.{TekNumber}
+use Rattle.key_numbers.specs.declared.numbers.TekNumber.{TekNumber}
 use Rattle.association.specs.declared.record.Assoc.{Assoc}
 use Rattle.association.specs.Mint.{mintOf}
 use Rattle.association.specs.Roll.{rolledBy, rolledOf}

@@ -4,7 +4,7 @@ use mathlib.Core.Bool.{Bool, true, false}
 use Prim.Native.Nat.{ℕ, _+_, _*_}
 use mathlib.Core.List.{List, [], _∷_, _++_}
 use lib.Dec.{ltb}
-use Rattle.keys.specs.Numbers.{tekNumber}
+use Rattle.key_numbers.specs.Numbers.{tekNumber}
 use Rattle.keys.specs.Suites.{widthOf}
 use Rattle.keys.specs.Octets.{octetsOf}
 use Rattle.keys.specs.declared.traffic.TrafficKey.{TrafficKey}

@@ -3,7 +3,7 @@ use mathlib.Core.Bool.{Bool, true, false}
 use Prim.Native.Nat.{ℕ, _+_, _*_}
 use mathlib.Core.List.{List}
 use lib.Dec.{ltb}
-use Rattle.keys.specs.Numbers.{afterOf}
+use Rattle.key_numbers.specs.Numbers.{afterOf}
 use Rattle.keys.specs.Suites.{widthOf}
 use Rattle.association.specs.declared.record.Assoc.{Assoc}
 use Rattle.association.specs.Mint.{mintOf}

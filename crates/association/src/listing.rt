@@ -5,7 +5,7 @@ ghost use lib.ListN.{length};
 ghost use Rattle.association.specs.Listing.{Listable, noListing, listedOf, namesOf};
 use crate::mint::mint;
 use crate::record::Assoc;
-use keys::numbers::TekNumber;
+use key_numbers::numbers::TekNumber;
 use keys::suites::width;
 
 // The SAIDs of a modem with their suites, in listing order: the first `count` of four places.

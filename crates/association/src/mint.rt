@@ -3,7 +3,7 @@ ghost use mathlib.Core.Path.{_≡_};
 ghost use Prim.Native.Nat.{_+_, _≤_};
 ghost use lib.ListN.{length};
 ghost use Rattle.association.specs.Mint.{mintOf};
-use keys::numbers::TekNumber;
+use key_numbers::numbers::TekNumber;
 use keys::traffic::TrafficKey;
 use keys::traffic::key_from;
 

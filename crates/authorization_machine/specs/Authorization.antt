@@ -3,7 +3,7 @@
 use Prim.Native.Nat.{ℕ, _+_, _-_, _≤_}
 use mathlib.Core.Bool.{Bool, cond, _&&_, _||_, not}
 use lib.Dec.{eqb}
-use Rattle.keys.specs.declared.numbers.AkNumber.{AkNumber}
+use Rattle.key_numbers.specs.declared.numbers.AkNumber.{AkNumber}
 use Rattle.machines.specs.declared.timer.Timer.{Timer}
 use Rattle.tek_parts.specs.declared.parts.Request.{Request}
 use Rattle.authorization_machine.specs.declared.authorization.Authorization.{Authorization}

@@ -1,7 +1,7 @@
 // The authorization machine.
 ghost use mathlib.Core.Path.{_≡_};
 ghost use Rattle.authorization_machine.specs.Authorization.{isPassive, requestsInto, authTakesNew, authIdentifier, authCounter, authTimer, akAfter, informsOf, requestsOf, authMoved, authStepOf, AuthReady};
-use keys::numbers::AkNumber;
+use key_numbers::numbers::AkNumber;
 use machines::identifier::next_identifier;
 use machines::timer::Timer;
 use machines::timer::cleared;

@@ -4,7 +4,7 @@ ghost use mathlib.Core.Path.{_≡_};
 ghost use Rattle.calls.specs.Calls.{plain};
 use association::listing::Listing;
 use association::listing::no_listing;
-use keys::numbers::TekNumber;
+use key_numbers::numbers::TekNumber;
 
 // Which call it is: a listing, the clock at both ends, the modem's own two, a message to the head-end and one to the modem, a sealing at the
 // head-end and at the modem, an opening at the head-end and at the modem.

@@ -8,7 +8,7 @@ use attributes::octets::key_octets;
 use attributes::octets::octet;
 use attributes::octets::part;
 use holders::pass::pass_inside;
-use keys::numbers::TekNumber;
+use key_numbers::numbers::TekNumber;
 use wire::fields::Descriptor;
 use wire::fields::Params;
 use wire::fields::Place;

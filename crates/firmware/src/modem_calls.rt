@@ -13,7 +13,7 @@ use for_c::modem_values::ModemOpening;
 use for_c::modem_values::frame_sealed;
 use for_c::modem_values::modem_call;
 use for_c::modem_values::modem_opening;
-use keys::numbers::TekNumber;
+use key_numbers::numbers::TekNumber;
 use modem::calls::clock;
 use modem::calls::established;
 use modem::calls::new;

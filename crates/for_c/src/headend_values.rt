@@ -6,7 +6,7 @@ use headend_frames::frames::OpenedCall;
 use headend_state::state::Called;
 use headend_state::state::HeadEnd;
 use headend_state::state::fresh;
-use keys::numbers::TekNumber;
+use key_numbers::numbers::TekNumber;
 use questions::refusal::answer_number;
 use questions::settings::no_settings;
 

@@ -2,10 +2,10 @@
 ghost use mathlib.Core.Path.{_≡_};
 ghost use lib.ListN.{length};
 ghost use Rattle.frame_decision.specs.Frame.{frameFits, slicesFit, isHeld, chosenOf, frameOf, Gives};
+use key_numbers::numbers::TekNumber;
+use key_numbers::numbers::tek_in_range;
 use keys::frame::Opening;
 use keys::frame::decide;
-use keys::numbers::TekNumber;
-use keys::numbers::tek_in_range;
 use keys::octets::put;
 use keys::suites::width_known;
 use keys::traffic::TrafficKey;

@@ -7,7 +7,7 @@ use native.Mathlib.Omega.{arith}
 use lib.Dec.{ltb, eqb}
 use lib.ListN.{length, getD}
 use borrow.Author.Tests.{leb-true, eqb-true}
-use Rattle.keys.specs.declared.numbers.TekNumber.{TekNumber}
+use Rattle.key_numbers.specs.declared.numbers.TekNumber.{TekNumber}
 use Rattle.questions.specs.declared.refusal.Answer.{Answer}
 use Rattle.questions.specs.declared.refusal.Answer.the-variants.{Done, Refused}
 use Rattle.questions.specs.Refusal.{answerNumber}

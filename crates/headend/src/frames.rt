@@ -13,7 +13,7 @@ use headend_frames::frames::seal_called;
 use headend_limits::search::of_said;
 use headend_limits::search::out_of_limits;
 use headend_state::state::HeadEnd;
-use keys::numbers::TekNumber;
+use key_numbers::numbers::TekNumber;
 use keys::sealing::SealedCall;
 use records::first;
 use records::lookup;

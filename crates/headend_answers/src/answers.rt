@@ -13,7 +13,7 @@ use headend_state::entries::with_entry;
 use headend_state::state::AuthKeys;
 use headend_state::state::Entry;
 use headend_state::state::HeadEnd;
-use keys::numbers::AkNumber;
+use key_numbers::numbers::AkNumber;
 use wire::fields::Fields;
 
 // What a message does: the head-end after it, and the fields of the answer; code 0 where there is none.

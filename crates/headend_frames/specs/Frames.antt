@@ -3,7 +3,7 @@ use mathlib.Core.Bool.{cond}
 use mathlib.Core.List.{List, []}
 use Prim.Native.Nat.{ℕ}
 use lib.Dec.{ltb, eqb}
-use Rattle.keys.specs.declared.numbers.TekNumber.{TekNumber}
+use Rattle.key_numbers.specs.declared.numbers.TekNumber.{TekNumber}
 use Rattle.keys.specs.declared.frame.Opening.{Opening}
 use Rattle.questions.specs.declared.refusal.Answer.{Answer}
 use Rattle.questions.specs.declared.refusal.Answer.the-variants.{Done, Refused}

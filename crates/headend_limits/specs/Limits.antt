@@ -3,7 +3,7 @@ use mathlib.Core.Bool.{Bool, true, cond, _&&_, _||_, not}
 use mathlib.Core.List.{List, [], _∷_, _++_}
 use Prim.Native.Nat.{ℕ, _+_}
 use lib.Dec.{leb, ltb, eqb}
-use Rattle.keys.specs.Numbers.{akInRange}
+use Rattle.key_numbers.specs.Numbers.{akInRange}
 use Rattle.questions.specs.Settings.{settingsFit}
 use Rattle.keys.specs.Suites.{suiteKnown}
 use Rattle.association.specs.declared.listing.Listing.{Listing}

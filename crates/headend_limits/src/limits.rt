@@ -13,7 +13,7 @@ use headend_state::entries::is_listing;
 use headend_state::state::AuthKeys;
 use headend_state::state::Entry;
 use headend_state::state::HeadEnd;
-use keys::numbers::ak_in_range;
+use key_numbers::numbers::ak_in_range;
 use keys::suites::suite_known;
 use keys::traffic::is_within;
 use questions::settings::settings_fit;

@@ -2,9 +2,9 @@
 ghost use mathlib.Core.Path.{_≡_};
 ghost use Rattle.headend_state.specs.Authorization.{Countable, isActive, keysFor, newestNumber};
 use crate::state::AuthKeys;
-use keys::numbers::AkNumber;
-use keys::numbers::ak_after;
-use keys::numbers::same_ak;
+use key_numbers::numbers::AkNumber;
+use key_numbers::numbers::ak_after;
+use key_numbers::numbers::same_ak;
 
 // Whether a key of that number is active.
 pub fn is_active(clock: u64, k: AuthKeys, number: AkNumber) -> bool

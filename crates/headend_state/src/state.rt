@@ -4,7 +4,7 @@ ghost use Rattle.questions.specs.Refusal.{answerNumber};
 ghost use Rattle.headend_state.specs.State.{noEntry, freshOf, answeredCall};
 use association::listing::Listing;
 use association::listing::no_listing;
-use keys::numbers::AkNumber;
+use key_numbers::numbers::AkNumber;
 use questions::refusal::Answer;
 use questions::refusal::answer_number;
 use questions::settings::Settings;

@@ -8,7 +8,7 @@ use native.Mathlib.Omega.{arith}
 use lib.Dec.{ltb, eqb}
 use lib.ListN.{length}
 use borrow.Author.Tests.{leb-true, le-leb, le-ltb, ltb-true, eqb-true}
-use Rattle.keys.specs.declared.numbers.AkNumber.{AkNumber}
+use Rattle.key_numbers.specs.declared.numbers.AkNumber.{AkNumber}
 use Rattle.questions.specs.declared.refusal.Answer.the-variants.{Done}
 use Rattle.questions.proofs.TestLaws.{both, either}
 use Rattle.wire.specs.declared.fields.Fields.{Fields}

@@ -15,7 +15,7 @@ use headend_state::state::Called;
 use headend_state::state::Entry;
 use headend_state::state::HeadEnd;
 use headend_state::state::answered;
-use keys::numbers::AkNumber;
+use key_numbers::numbers::AkNumber;
 use questions::refusal::Answer;
 use questions::refusal::Refusal;
 use questions::refusal::ask;

@@ -4,8 +4,8 @@ use mathlib.Core.Bool.{true}
 use Prim.Native.Nat.{ℕ, _+_, _%_, _≤_}
 use native.Mathlib.Omega.{arith}
 use borrow.Author.Tests.{le-leb, eq-eqb}
-use Rattle.keys.specs.declared.numbers.TekNumber.{TekNumber}
-use Rattle.keys.specs.Numbers.{afterOf, tekInRange, sameTek}
+use Rattle.key_numbers.specs.declared.numbers.TekNumber.{TekNumber}
+use Rattle.key_numbers.specs.Numbers.{afterOf, tekInRange, sameTek}
 
 pub after-in-range : (n : TekNumber) (k : ℕ) → tekInRange (afterOf n k) ≡ true
 after-in-range n k =

@@ -2,12 +2,12 @@
 use mathlib.Core.Bool.{Bool, cond, _&&_}
 use Prim.Native.Nat.{ℕ}
 use lib.Dec.{ltb}
-use Rattle.keys.specs.declared.numbers.TekNumber.{TekNumber}
+use Rattle.key_numbers.specs.declared.numbers.TekNumber.{TekNumber}
 use Rattle.keys.specs.declared.traffic.TrafficKey.{TrafficKey}
 use Rattle.keys.specs.declared.frame.Opening.{Opening}
 use Rattle.keys.specs.declared.frame.Opening.the-variants.{ByOlder, ByNewer, ByNeither}
 use Rattle.questions.specs.declared.refusal.Refusal.the-variants.{NoKeyForFrame}
-use Rattle.keys.specs.Numbers.{sameTek}
+use Rattle.key_numbers.specs.Numbers.{sameTek}
 use Rattle.questions.specs.Refusal.{numberOf}
 
 -- A key opens frames of its number while its deadline is after the clock

@@ -1,4 +1,3 @@
-pub mod Numbers
 pub mod Suites
 pub mod Addresses
 pub mod Octets

@@ -5,8 +5,8 @@ use mathlib.Core.List.{List}
 use lib.Dec.{ltb, leb}
 use lib.ListN.{replicate}
 use Rattle.keys.specs.declared.traffic.TrafficKey.{TrafficKey}
-use Rattle.keys.specs.declared.numbers.TekNumber.{TekNumber}
-use Rattle.keys.specs.Numbers.{tekInRange, sameTek, afterOf}
+use Rattle.key_numbers.specs.declared.numbers.TekNumber.{TekNumber}
+use Rattle.key_numbers.specs.Numbers.{tekInRange, sameTek, afterOf}
 use Rattle.keys.specs.Octets.{octetsOf, zeroPast}
 
 -- A key that is not there: all zero

@@ -1,9 +1,9 @@
 // The frame decision: which of the two held keys opens a frame, if any.
 ghost use mathlib.Core.Path.{_≡_};
 ghost use Rattle.keys.specs.Frame.{serves, openingOf};
-use crate::numbers::TekNumber;
-use crate::numbers::same_tek;
 use crate::traffic::TrafficKey;
+use key_numbers::numbers::TekNumber;
+use key_numbers::numbers::same_tek;
 
 // Which of a pair's keys opens a frame.
 pub enum Opening {

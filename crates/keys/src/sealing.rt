@@ -4,9 +4,9 @@ ghost use Prim.Native.Nat.{_≤_};
 ghost use lib.ListN.{length};
 ghost use Rattle.keys.specs.Octets.{overlay};
 ghost use Rattle.keys.specs.Sealing.{keyOut, oneMore};
-use crate::numbers::TekNumber;
 use crate::octets::put;
 use crate::traffic::TrafficKey;
+use key_numbers::numbers::TekNumber;
 use questions::refusal::Answer;
 
 // What sealing hands back: the answer, the key's number, and how many octets of TEK and of vector were written; 0 where it is refused.

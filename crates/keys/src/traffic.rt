@@ -3,12 +3,12 @@ ghost use mathlib.Core.Path.{_≡_};
 ghost use Prim.Native.Nat.{_+_, _<_};
 ghost use lib.Dec.{leb};
 ghost use Rattle.keys.specs.Traffic.{noKey, keyFrom, keyFits, follows, pairFits};
-use crate::numbers::TekNumber;
-use crate::numbers::same_tek;
-use crate::numbers::tek_after;
-use crate::numbers::tek_in_range;
 use crate::octets::octets;
 use crate::octets::zero_past;
+use key_numbers::numbers::TekNumber;
+use key_numbers::numbers::same_tek;
+use key_numbers::numbers::tek_after;
+use key_numbers::numbers::tek_in_range;
 
 #[repr(C)]
 pub struct TrafficKey {

@@ -11,7 +11,7 @@ use Rattle.questions.specs.declared.refusal.Answer.{Answer}
 use Rattle.questions.specs.declared.refusal.Answer.the-variants.{Done, Refused}
 use Rattle.questions.specs.declared.refusal.Refusal.the-variants.{WrongIdentifier}
 use Rattle.questions.specs.Questions.{firstNo}
-use Rattle.keys.specs.declared.numbers.AkNumber.{AkNumber}
+use Rattle.key_numbers.specs.declared.numbers.AkNumber.{AkNumber}
 use Rattle.wire.specs.declared.fields.Params.{Params}
 use Rattle.wire.specs.declared.fields.Receiver.the-variants.{Modem as AtModem}
 use Rattle.wire.specs.Messages.{question9, messageAnswer}

@@ -8,7 +8,7 @@ use lib.Dec.{ltb, leb, eqb}
 use lib.ListN.{length, getD, set, take, length-append, length-set}
 use lib.Seq.{getD-set-same, getD-set-other}
 use borrow.Author.Tests.{le-leb, lt-leb, eq-eqb}
-use Rattle.keys.specs.declared.numbers.AkNumber.{AkNumber}
+use Rattle.key_numbers.specs.declared.numbers.AkNumber.{AkNumber}
 use Rattle.keys.specs.Octets.{allZero, zeroPast}
 use Rattle.questions.proofs.ListLaws.{IfLt, if-lt}
 use Rattle.wire.specs.declared.fields.Params.{Params}

@@ -8,7 +8,7 @@ use lib.Dec.{ltb, leb, eqb}
 use lib.ListN.{length, getD, set, List·getD-eq-default}
 use lib.Seq.{getD-set-same, getD-set-other, set-out}
 use borrow.Author.Tests.{ltb-true, eqb-true, eqb-false}
-use Rattle.keys.specs.declared.numbers.AkNumber.{AkNumber}
+use Rattle.key_numbers.specs.declared.numbers.AkNumber.{AkNumber}
 use Rattle.questions.specs.declared.settings.Settings.{Settings}
 use Rattle.questions.proofs.TestLaws.{both}
 use Rattle.questions.proofs.ListLaws.{IfLt, if-lt}

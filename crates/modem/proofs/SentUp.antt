@@ -9,7 +9,7 @@ use lib.Dec.{eqb, ltb, leb}
 use lib.ListN.{length, set, take}
 use lib.Seq.{take-suc-set, take-all, set-out}
 use borrow.Author.Tests.{eq-eqb}
-use Rattle.keys.specs.declared.numbers.AkNumber.{AkNumber}
+use Rattle.key_numbers.specs.declared.numbers.AkNumber.{AkNumber}
 use Rattle.questions.proofs.ListLaws.{Each, each-nil, each-snoc, IfLt, if-lt}
 use Rattle.wire.specs.declared.fields.Fields.{Fields}
 use Rattle.wire.specs.declared.fields.Params.{Params}

@@ -1,8 +1,8 @@
 // Questions 13 and 14 of a pair, and the counts of frames.
 ghost use mathlib.Core.Path.{_≡_};
 ghost use Rattle.modem_frame_rules.specs.FrameRules.{countedBy, pairSeals, pairOpens};
+use key_numbers::numbers::TekNumber;
 use keys::frame::is_serving;
-use keys::numbers::TekNumber;
 use keys::sealing::one_more;
 use modem_steps::state::Modem;
 use questions::refusal::Answer;

@@ -7,13 +7,13 @@ use native.Mathlib.Omega.{arith}
 use lib.Dec.{leb, ltb, eqb}
 use lib.ListN.{length, take}
 use borrow.Author.Tests.{ltb-true, leb-true, eq-eqb, ne-eqb}
-use Rattle.keys.specs.declared.numbers.TekNumber.{TekNumber}
+use Rattle.key_numbers.specs.declared.numbers.TekNumber.{TekNumber}
 use Rattle.keys.specs.declared.frame.Opening.{Opening}
 use Rattle.questions.specs.declared.refusal.Answer.{Answer}
 use Rattle.questions.specs.declared.refusal.Answer.the-variants.{Done, Refused}
 use Rattle.questions.specs.declared.refusal.Refusal.{Refusal}
 use Rattle.questions.specs.declared.refusal.Refusal.the-variants.{OutOfLimits, WrongLength, UnknownSaid, NoKeyForFrame, NoKeyToSeal}
-use Rattle.keys.specs.Numbers.{tekInRange}
+use Rattle.key_numbers.specs.Numbers.{tekInRange}
 use Rattle.keys.specs.Octets.{overlay}
 use Rattle.questions.specs.Refusal.{answerNumber, isDone}
 use Rattle.keys.specs.Suites.{widthOf}

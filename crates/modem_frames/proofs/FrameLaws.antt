@@ -7,13 +7,13 @@ use Prim.Native.Nat.{ℕ, _≤_, _<_}
 use native.Mathlib.Omega.{arith}
 use lib.Dec.{leb, ltb, eqb}
 use borrow.Author.Tests.{ltb-true, leb-true, lt-ltb, le-leb, eqb-true}
-use Rattle.keys.specs.declared.numbers.TekNumber.{TekNumber}
+use Rattle.key_numbers.specs.declared.numbers.TekNumber.{TekNumber}
 use Rattle.keys.specs.declared.traffic.TrafficKey.{TrafficKey}
 use Rattle.questions.specs.declared.refusal.Answer.{Answer}
 use Rattle.questions.specs.declared.refusal.Answer.the-variants.{Done, Refused}
 use Rattle.questions.specs.declared.refusal.Refusal.{Refusal}
 use Rattle.questions.specs.declared.refusal.Refusal.the-variants.{OutOfLimits, WrongLength, UnknownSaid, NoKeyForFrame, NoKeyToSeal}
-use Rattle.keys.specs.Numbers.{tekInRange, sameTek}
+use Rattle.key_numbers.specs.Numbers.{tekInRange, sameTek}
 use Rattle.keys.specs.Octets.{zeroPast}
 use Rattle.keys.specs.Suites.{widthOf}
 use Rattle.questions.specs.Questions.{Question}

@@ -4,7 +4,7 @@ use mathlib.Core.Bool.{Bool, false, cond, _&&_, _||_, not}
 use mathlib.Core.List.{List, [], _∷_}
 use lib.Dec.{eqb, leb, ltb}
 use lib.ListN.{take}
-use Rattle.keys.specs.Numbers.{akInRange}
+use Rattle.key_numbers.specs.Numbers.{akInRange}
 use Rattle.keys.specs.Addresses.{saidFits, addressFits}
 use Rattle.questions.specs.Settings.{settingsFit}
 use Rattle.keys.specs.Suites.{suiteKnown, widthOf}

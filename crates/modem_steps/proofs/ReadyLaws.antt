@@ -2,7 +2,7 @@
 use mathlib.Core.Path.{_≡_, sym, subst}
 use Prim.Native.Nat.{ℕ, _≤_}
 use native.Mathlib.Omega.{arith}
-use Rattle.keys.specs.declared.numbers.AkNumber.{AkNumber}
+use Rattle.key_numbers.specs.declared.numbers.AkNumber.{AkNumber}
 use Rattle.wire.specs.declared.fields.Params.{Params}
 use Rattle.wire.specs.Fields.{noParams}
 use Rattle.tek_machine.specs.declared.tek.TekMoment.{TekMoment}

@@ -1,6 +1,6 @@
 -- What an event of the authorization machine does to the modem (document 01, "Modem: authorization machine").
 use Prim.Native.Nat.{ℕ}
-use Rattle.keys.specs.declared.numbers.AkNumber.{AkNumber}
+use Rattle.key_numbers.specs.declared.numbers.AkNumber.{AkNumber}
 use Rattle.authorization_machine.specs.declared.authorization.AuthMoment.{AuthMoment}
 use Rattle.authorization_machine.specs.declared.authorization.AuthStep.{AuthStep}
 use Rattle.authorization_machine.specs.Authorization.{authStepOf}

@@ -7,7 +7,7 @@ use crate::state::Modem;
 use crate::state::Work;
 use authorization_machine::authorization::AuthMoment;
 use authorization_machine::authorization::AuthStep;
-use keys::numbers::AkNumber;
+use key_numbers::numbers::AkNumber;
 
 fn auth_moment(m: Modem, ak: AkNumber, life: u64) -> AuthMoment
     ensures { λ r. ⌜ r ≡ authMoment m ak life ⌝ }

@@ -2,7 +2,7 @@
 ghost use mathlib.Core.Path.{_≡_};
 ghost use Rattle.modem_steps.specs.State.{noTek, noOut, pushed, starting, freshOf};
 use authorization_machine::authorization::Authorization;
-use keys::numbers::AkNumber;
+use key_numbers::numbers::AkNumber;
 use machines::timer::cleared;
 use questions::refusal::Answer;
 use questions::settings::Settings;

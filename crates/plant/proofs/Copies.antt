@@ -7,7 +7,7 @@ use mathlib.Core.List.{List, List·Memᴰ}
 use Prim.Native.Nat.{ℕ, _+_, _%_, _≤_, _<_}
 use lib.ListN.{take}
 use Rattle.keys.specs.declared.traffic.TrafficKey.{TrafficKey}
-use Rattle.keys.specs.Numbers.{tekInRange}
+use Rattle.key_numbers.specs.Numbers.{tekInRange}
 use Rattle.keys.specs.Suites.{widthOf}
 use Rattle.keys.specs.Sealing.{KeyOut}
 use Rattle.association.specs.Made.{Made}

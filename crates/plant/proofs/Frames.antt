@@ -8,10 +8,10 @@ use native.Mathlib.Omega.{arith}
 use lib.Dec.{leb}
 use lib.ListN.{getD}
 use borrow.Author.Tests.{leb-true, ltb-true}
-use Rattle.keys.specs.declared.numbers.TekNumber.{TekNumber}
+use Rattle.key_numbers.specs.declared.numbers.TekNumber.{TekNumber}
 use Rattle.keys.specs.declared.traffic.TrafficKey.{TrafficKey}
 use Rattle.questions.specs.Refusal.{answerNumber}
-use Rattle.keys.specs.Numbers.{tekInRange}
+use Rattle.key_numbers.specs.Numbers.{tekInRange}
 use Rattle.keys.specs.Suites.{widthOf}
 use Rattle.keys.specs.Sealing.{keyOut}
 use Rattle.questions.proofs.TestLaws.{both}

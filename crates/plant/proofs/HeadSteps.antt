@@ -10,7 +10,7 @@ use Rattle.questions.specs.declared.refusal.Refusal.{Refusal}
 use Rattle.questions.specs.declared.settings.Settings.{Settings}
 use Rattle.questions.specs.Refusal.{answerNumber}
 use Rattle.questions.specs.Settings.{halfOf, settingsFit}
-use Rattle.keys.specs.declared.numbers.TekNumber.{TekNumber}
+use Rattle.key_numbers.specs.declared.numbers.TekNumber.{TekNumber}
 use Rattle.questions.proofs.ListLaws.{Each, each-nil, each-cons}
 use Rattle.association.specs.declared.record.Assoc.{Assoc}
 use Rattle.association.specs.declared.listing.Listing.{Listing}

@@ -13,7 +13,7 @@ use compounds::compound::Compounds;
 use compounds::compound::compounds_in;
 use holders::pass::Body;
 use holders::pass::pass_body;
-use keys::numbers::AkNumber;
+use key_numbers::numbers::AkNumber;
 use questions::refusal::Answer;
 use questions::refusal::Refusal;
 use wire::fields::Fields;

@@ -12,7 +12,7 @@ use crate::name::kind_named;
 use calls::Call;
 use calls::Kind;
 use calls::plain_call;
-use keys::numbers::TekNumber;
+use key_numbers::numbers::TekNumber;
 use line_fields::fields::Cuts;
 use line_fields::fields::cut_line;
 use line_fields::fields::flag_of;

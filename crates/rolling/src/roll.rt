@@ -6,7 +6,7 @@ ghost use Rattle.association.specs.Record.{Rollable};
 ghost use Rattle.association.specs.Roll.{rolledOf};
 use association::mint::mint;
 use association::record::Assoc;
-use keys::numbers::tek_after;
+use key_numbers::numbers::tek_after;
 use keys::suites::width;
 
 // The clock goes to `t`; `m` has the record's 64 octets of fresh material at `at`.

@@ -10,11 +10,11 @@ use lib.ListN.{length, length-append}
 use lib.Seq.{sets, length-sets}
 use borrow.Author.Tests.{leb-true, le-leb}
 use Rattle.keys.specs.Put.{Put}
-use Rattle.keys.specs.Numbers.{tekNumber, afterOf}
+use Rattle.key_numbers.specs.Numbers.{tekNumber, afterOf}
 use Rattle.questions.specs.Settings.{lifeFits}
 use Rattle.keys.specs.Suites.{widthOf}
 use Rattle.keys.specs.Octets.{overlay}
-use Rattle.keys.specs.declared.numbers.TekNumber.{TekNumber}
+use Rattle.key_numbers.specs.declared.numbers.TekNumber.{TekNumber}
 use Rattle.questions.proofs.TestLaws.{both}
 use Rattle.association.specs.declared.record.Assoc.{Assoc}
 use Rattle.association.specs.Mint.{mintOf}

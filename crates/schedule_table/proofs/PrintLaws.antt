@@ -10,7 +10,7 @@ use lib.ListN.{length, take, drop, length-append}
 use lib.Seq.{take-append-seam}
 use borrow.Author.Tests.{lt-ltb, le-ltb, eqb-true, eqb-false}
 use Rattle.keys.specs.Octets.{overlay}
-use Rattle.keys.specs.declared.numbers.TekNumber.{TekNumber}
+use Rattle.key_numbers.specs.declared.numbers.TekNumber.{TekNumber}
 use Rattle.text.specs.Decimal.{limit}
 use Rattle.text.proofs.DecimalLaws.{decimal-length-high}
 use Rattle.association.specs.Listing.{freshOf}

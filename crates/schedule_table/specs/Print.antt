@@ -5,7 +5,7 @@ use mathlib.Core.List.{List, [], _∷_, _++_}
 use Prim.Native.Nat.{ℕ, zero, suc, _+_, _-_, _*_, _/_, _≤_}
 use lib.Dec.{leb, eqb}
 use lib.ListN.{length}
-use Rattle.keys.specs.Numbers.{tekNumber}
+use Rattle.key_numbers.specs.Numbers.{tekNumber}
 use Rattle.keys.specs.declared.traffic.TrafficKey.{TrafficKey}
 use Rattle.association.specs.Listing.{freshOf}
 use Rattle.association.specs.Made.{Made, Line, keysMadeFrom}

@@ -2,7 +2,7 @@
 use Prim.Native.Nat.{ℕ, _+_, _-_, _≤_}
 use mathlib.Core.Bool.{cond, _||_}
 use lib.Dec.{eqb}
-use Rattle.keys.specs.declared.numbers.AkNumber.{AkNumber}
+use Rattle.key_numbers.specs.declared.numbers.AkNumber.{AkNumber}
 use Rattle.wire.specs.declared.fields.Params.{Params}
 use Rattle.machines.specs.declared.timer.Timer.{Timer}
 use Rattle.tek_parts.specs.declared.parts.Pair.{Pair}

@@ -2,7 +2,7 @@
 ghost use mathlib.Core.Path.{_≡_};
 ghost use Prim.Native.Nat.{_+_, _≤_};
 ghost use Rattle.tek_machine.specs.Tek.{identifierAfter, tekTimer, pairAfter, tekSends, tekMoved, tekStepOf, TekReady};
-use keys::numbers::AkNumber;
+use key_numbers::numbers::AkNumber;
 use machines::identifier::next_identifier;
 use machines::timer::Timer;
 use machines::timer::cleared;

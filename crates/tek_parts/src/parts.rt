@@ -2,7 +2,7 @@
 ghost use mathlib.Core.Path.{_≡_};
 ghost use Prim.Native.Nat.{_+_, _-_, _≤_};
 ghost use Rattle.tek_parts.specs.TekParts.{sendsInto, takesNew, counterAfter, noPair, keyOf, pairOf, nothing};
-use keys::numbers::AkNumber;
+use key_numbers::numbers::AkNumber;
 use keys::traffic::TrafficKey;
 use keys::traffic::no_key;
 use machines::identifier::next_identifier;

@@ -5,7 +5,7 @@ use mathlib.Core.List.{List, [], _∷_}
 use mathlib.Core.Bool.{Bool, true, _&&_, _||_, not, cond}
 use lib.ListN.{getD, take}
 use lib.Dec.{leb, ltb, eqb}
-use Rattle.keys.specs.Numbers.{akInRange, tekInRange}
+use Rattle.key_numbers.specs.Numbers.{akInRange, tekInRange}
 use Rattle.keys.specs.Addresses.{saidFits}
 use Rattle.keys.specs.Suites.{suiteKnown, widthKnown}
 use Rattle.keys.specs.Octets.{zeroPast}

@@ -2,8 +2,8 @@
 ghost use mathlib.Core.Path.{_≡_};
 ghost use lib.ListN.{replicate};
 ghost use Rattle.wire.specs.Fields.{noDescriptor, noParams};
-use keys::numbers::AkNumber;
-use keys::numbers::TekNumber;
+use key_numbers::numbers::AkNumber;
+use key_numbers::numbers::TekNumber;
 use questions::refusal::Answer;
 
 // A TEK or a vector: its octets from the front of 16, zeros after them.

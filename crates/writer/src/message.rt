@@ -8,7 +8,7 @@ ghost use Rattle.wire.specs.Writing.{itemsOf, messageOf};
 ghost use Rattle.keys.specs.Put.{Put};
 ghost use Rattle.writer_parts.specs.Put.{Wrote};
 ghost use Rattle.writer_parts.specs.Parts.{paramsItem, namedItems, grantItems, Writable};
-use keys::numbers::AkNumber;
+use key_numbers::numbers::AkNumber;
 use wire::fields::Descriptor;
 use wire::fields::Fields;
 use wire::fields::Params;

@@ -1,6 +1,6 @@
 // Key numbers of both kinds, 0 to 15. They are two types so that no function takes one for the other.
 ghost use mathlib.Core.Path.{_≡_};
-ghost use Rattle.keys.specs.Numbers.{afterOf, akAfter, akInRange, tekInRange, sameAk, sameTek};
+ghost use Rattle.key_numbers.specs.Numbers.{afterOf, akAfter, akInRange, tekInRange, sameAk, sameTek};
 
 // The number of an authorization key.
 #[repr(C)]

@@ -2,8 +2,8 @@
 use mathlib.Core.Bool.{Bool}
 use Prim.Native.Nat.{ℕ, _+_, _%_}
 use lib.Dec.{leb, eqb}
-use Rattle.keys.specs.declared.numbers.AkNumber.{AkNumber}
-use Rattle.keys.specs.declared.numbers.TekNumber.{TekNumber}
+use Rattle.key_numbers.specs.declared.numbers.AkNumber.{AkNumber}
+use Rattle.key_numbers.specs.declared.numbers.TekNumber.{TekNumber}
 
 -- An authorization key's number is 0 to 15
 abbrev pub akInRange : AkNumber → Bool
