@@ -15,9 +15,8 @@ use Rattle.replay_setup.specs.declared.setup.ReadModem.{ReadModem}
 use Rattle.replay_setup.specs.declared.setup.Three.{Three}
 use Rattle.line_fields.specs.Fields.{fieldsOf, field, isLine, isNumber, numberIn}
 use Rattle.line_fields.specs.Listing.{wordIn}
-use Rattle.replay_setup.specs.Setup.{threeNumbers, isSettings, settingsIn, settingsWhen, settingsOf, isModem, modemWhen, modemOf}
+use Rattle.replay_setup.specs.Setup.{threeNumbers, isSettings, settingsIn, settingsWhen, settingsOf, isModem, modemWhen, modemOf, threeAt}
 use Rattle.line_fields.specs.Places.{textOf, fieldAt, fieldsFrom, afterField, numOf}
-use Rattle.replay_setup.specs.Setup.{threeAt}
 use Rattle.line_fields.proofs.FieldLaws.{from-start, nth-holds, nth-rest}
 
 module _ (l : List ℕ) where

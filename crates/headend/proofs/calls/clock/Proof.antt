@@ -79,10 +79,10 @@ use Rattle.records.proofs.roll.Symbol as roll-def
 use Rattle.records.proofs.roll.Symbol.{name as #records·roll}
 use Rattle.records.proofs.roll.Met as roll-thm
 use Rattle.questions.specs.Refusal.{answerNumber}
-use Rattle.records.specs.Records.{firstOf, rolledTo, RollFit}
 use Rattle.records.proofs.RecordsLaws.{holds, fails}
 use Rattle.records.proofs.Again.{LentAgain, lends-again, comes-back}
 use Rattle.records.proofs.Shown.{LentShown, shows-again, comes-home}
+use Rattle.records.specs.Records.{firstOf, rolledTo, RollFit}
 use Rattle.headend_limits.specs.Search.{halfIn, outOfLimits}
 use Rattle.headend_steps.specs.Clock.{clockCalled}
 use Rattle.headend_rules.specs.Calls.{clockRecords}

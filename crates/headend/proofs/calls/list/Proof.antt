@@ -86,10 +86,10 @@ use Rattle.records.proofs.store.Symbol as store-def
 use Rattle.records.proofs.store.Symbol.{name as #records·store}
 use Rattle.records.proofs.store.Met as store-thm
 use Rattle.questions.specs.Refusal.{answerNumber}
-use Rattle.records.specs.Records.{firstOf, storedAt, StoreFit}
 use Rattle.records.proofs.RecordsLaws.{holds, fails}
 use Rattle.records.proofs.Again.{LentAgain, lends-again, comes-back}
 use Rattle.records.proofs.Shown.{LentShown, shows-again, comes-home}
+use Rattle.records.specs.Records.{firstOf, storedAt, StoreFit}
 use Rattle.headend_limits.specs.Search.{halfIn, outOfLimits, oneOf}
 use Rattle.headend_steps.specs.Listing.{listCalled}
 use Rattle.headend_rules.specs.Calls.{listRecords}

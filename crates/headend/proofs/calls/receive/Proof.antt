@@ -153,7 +153,7 @@ module _ {M : Type 1} (𝓤 : URA M) (H : Heap 𝓤) (A : Atoms 𝓤) (W : Given
   abbrev Post : Val → SProp 𝓤
   Post = walkOf 𝓤 H A receive₀.ended stayed (receive₀.clauses 𝓤 H A mem run) .post ((((κ, (μ, (κ₃, (κ₄, tt)))), (q, (p, (q₃, (q₄, tt)))), tt, a, vals), tt))
 
-  exits : (r : Called) (w : Val) (zs-out : List ℕ) → Is Called₁.the-row r (w ∷ []) → length zs-out ≡ length (out .now) → (r ≡ receiveCalled h (firstOf (outOfLimits h) (records .now)) (length (records .now)) (lookupOf (ofRequest (readOf AtHeadEnd (message .now))) (records .now)) address digest (readOf AtHeadEnd (message .now)) (key .now) (length (out .now))) × ((zs-out ≡ overlay (out .now) (receiveWritten h (firstOf (outOfLimits h) (records .now)) (length (records .now)) (lookupOf (ofRequest (readOf AtHeadEnd (message .now))) (records .now)) address digest (readOf AtHeadEnd (message .now)) (key .now) (length (out .now)))))
+  exits : (r : Called) (w : Val) (zs-out : List ℕ) → Is Called₁.the-row r (w ∷ []) → length zs-out ≡ length (out .now) → (r ≡ receiveCalled h (firstOf (outOfLimits h) (records .now)) (length (records .now)) (lookupOf (ofRequest (readOf AtHeadEnd (message .now))) (records .now)) address digest (readOf AtHeadEnd (message .now)) (key .now) (length (out .now))) × (zs-out ≡ overlay (out .now) (receiveWritten h (firstOf (outOfLimits h) (records .now)) (length (records .now)) (lookupOf (ofRequest (readOf AtHeadEnd (message .now))) (records .now)) address digest (readOf AtHeadEnd (message .now)) (key .now) (length (out .now))))
       → ent 𝓤 (⋆ 𝓤 H A (‵ Records′ ∷ ‵ (flft κ q) ∷ ‵ Message′ ∷ ‵ (flft μ p) ∷ ‵ Key′ ∷ ‵ (flft κ₃ q₃) ∷ ‵ (finally u8 (out .name) zs-out) ∷ ‵ (flft κ₄ q₄) ∷ [])) (Post w)
   exits r w zs-out is same-out right =
       qed W (‵ Records′ ∷ ‵ (flft κ q) ∷ ‵ Message′ ∷ ‵ (flft μ p) ∷ ‵ Key′ ∷ ‵ (flft κ₃ q₃) ∷ ‵ (finally u8 (out .name) zs-out) ∷ ‵ (flft κ₄ q₄) ∷ []) ∵
@@ -258,7 +258,7 @@ module _ {M : Type 1} (𝓤 : URA M) (H : Heap 𝓤) (A : Atoms 𝓤) (W : Given
     goes-receive-called = qed W ((‵ (flft κ₃ q₃) ⊛ ‵ (flft κ₄ q₄)) ∷ ‵ (fsep Key′ Out′) ∷ []) ∵ split ! $ move ! (1 ∷ []) $ move ! (2 ∷ []) $ fsplit ! $ move ! (1 ∷ []) $ nothing ! $ move ! (3 ∷ 0 ∷ []) $ join ! $ move ! (3 ∷ 0 ∷ []) $ join ! $ nothing ! $ move ! (2 ∷ 0 ∷ []) $ fjoin ! $ move ! (2 ∷ 0 ∷ []) $ fjoin ! $ owned ! Reading₁.the-row (Is Reading₁.the-row) (LL.makes Reading₁.the-type Reading₁′.the-plain 𝓤 H A) reading _ reading-is $ fjoin ! $ owned ! bool (Is bool) (bool-makes 𝓤 H A W) digest _ refl $ fjoin ! $ owned ! u64 (Is u64) (uint-makes 𝓤 H A W w64) address _ (refl, address-fits) $ fjoin ! $ owned ! Found₁.the-row (Is Found₁.the-row) (LL.makes Found₁.the-type Found₁′.the-plain 𝓤 H A) found _ found-is $ fjoin ! $ owned ! usize (Is usize) (uint-makes 𝓤 H A W w64) (length (records .now)) _ (refl, records-room .0) $ fjoin ! $ owned ! usize (Is usize) (uint-makes 𝓤 H A W w64) bad _ (refl, bad-fits) $ fjoin ! $ owned ! HeadEnd₁.the-row (Is HeadEnd₁.the-row) (LL.makes HeadEnd₁.the-type HeadEnd₁′.the-plain 𝓤 H A) h _ h-is $ fjoin ! $ move ! (1 ∷ 0 ∷ []) $ join ! $ frame ! $ done !
 
     abbrev Given-back : Called → List ℕ → Type 0
-    Given-back r zs-out = (r ≡ receiveCalled h bad (length (records .now)) found address digest reading (key .now) (length (out .now))) × ((zs-out ≡ overlay (out .now) (receiveWritten h bad (length (records .now)) found address digest reading (key .now) (length (out .now)))))
+    Given-back r zs-out = (r ≡ receiveCalled h bad (length (records .now)) found address digest reading (key .now) (length (out .now))) × (zs-out ≡ overlay (out .now) (receiveWritten h bad (length (records .now)) found address digest reading (key .now) (length (out .now))))
 
   module _ (C : Calls 𝓤 H) (Λ : Loops 𝓤 H) (fm : FmC 𝓤 H (W .laws) C) (known-out-of-limits : Triple 𝓤 (C #headend-limits·search·out-of-limits) (OutOfLimitsᶜ 𝓤 H A mem run)) (known-first : Triple 𝓤 (C #records·first) (Firstᶜ 𝓤 H A mem run)) (known-read-request : Triple 𝓤 (C #headend-steps·receive·read-request) (ReadRequestᶜ 𝓤 H A mem run)) (known-of-request : Triple 𝓤 (C #headend-limits·search·of-request) (OfRequestᶜ 𝓤 H A mem run)) (known-lookup : Triple 𝓤 (C #records·lookup) (Lookupᶜ 𝓤 H A mem run)) (known-receive-called : Triple 𝓤 (C #headend-steps·receive·receive-called) (ReceiveCalledᶜ 𝓤 H A mem run)) (l₀ l₁ l₂ l₃ l₄ l₅ l₆ l₇ l₈ l₉ l₁₀ l₁₁ l₁₂ l₁₃ l₁₄ : ℕ) where
     abbrev En : Env 𝓤 H
