@@ -21,7 +21,8 @@ use Rattle.modem_steps.specs.State.{withClock, starting}
 use Rattle.modem_steps.specs.Slots.{told, toldReply, toldAll, slotOfSaid, slotAsking}
 use Rattle.modem_steps.specs.Machine.{plainEvent}
 use Rattle.modem_steps.specs.Clock.{authFired, clocked}
-use Rattle.modem_events.specs.Events.{replied, rejectEvent, rejected, pendedIf, invalidated}
+use Rattle.modem_reply.specs.Replied.{replied}
+use Rattle.modem_events.specs.Events.{rejectEvent, rejected, pendedIf, invalidated}
 use Rattle.modem_receive.specs.Receive.{fieldsIn, receiveQuestions, received}
 use Rattle.modem.specs.Messages.{requestsOctets, outOctets}
 use Rattle.modem.specs.Calls.{resultOf, firstQuestions, eventOf, clockOf, receiveOf}

@@ -26,9 +26,9 @@ use Rattle.modem_steps.specs.declared.state.Work.{Work}
 use Rattle.modem_steps.specs.State.{pastTek, slotAt, starting}
 use Rattle.modem_steps.specs.Slots.{tekMoment, firstSlot, slotOfSaid}
 use Rattle.relisting.specs.Listed.{descriptorAt, lists}
-use Rattle.modem_steps.specs.Relist.{emptied, placed, appended, keptIf, keptOne, keptTo, freshTek, startedIf, startedOne, startedTo, listedAnew, relisted}
+use Rattle.modem_reply.specs.Relist.{emptied, placed, appended, keptIf, keptOne, keptTo, freshTek, startedIf, startedOne, startedTo, listedAnew, relisted}
 use Rattle.modem_steps.specs.Machine.{authTold}
-use Rattle.modem_events.specs.Events.{replied}
+use Rattle.modem_reply.specs.Replied.{replied}
 use Rattle.modem_limits.specs.Limits.{timerFits, keyZero, pairHeldFits, tekFits, tekZero}
 use Rattle.modem_limits.proofs.LimitsLaws.{Apart, by-four, SlotIn, InLimits, tek-by}
 use Rattle.modem.proofs.OutLaws.{tek-said}

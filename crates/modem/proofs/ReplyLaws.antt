@@ -18,7 +18,7 @@ use Rattle.machines.specs.Transitions.{blank, tekNext}
 use Rattle.tek_machine.specs.Tek.{tekMoved, tekStays, tekStepOf}
 use Rattle.modem_steps.specs.State.{pastTek}
 use Rattle.relisting.specs.Listed.{descriptorAt}
-use Rattle.modem_steps.specs.Relist.{freshTek}
+use Rattle.modem_reply.specs.Relist.{freshTek}
 use Rattle.modem_limits.specs.Limits.{saidsOfTeks}
 use Rattle.modem.proofs.DifferLaws.{Differ, differ-snoc, no-longer, held-member, member-front, member-back}
 use Rattle.modem.proofs.ReplySteps.{isNew, newTo, counted, stepOf, stepsOf, machinesOf}

@@ -17,7 +17,7 @@ use Rattle.machines.specs.Transitions.{A}
 use Rattle.modem_steps.specs.declared.state.Modem.{Modem}
 use Rattle.modem_steps.specs.State.{slotAt}
 use Rattle.relisting.specs.Listed.{descriptorAt, hasAt, lists}
-use Rattle.modem_steps.specs.Relist.{freshTek}
+use Rattle.modem_reply.specs.Relist.{freshTek}
 use Rattle.modem_limits.specs.Limits.{saidsOfTeks}
 use Rattle.modem_limits.proofs.LimitsLaws.{Apart}
 use Rattle.modem.proofs.DifferLaws.{Missing, Differ, differ-snoc, no-longer, none-missing, each-append, member-front}

@@ -27,9 +27,9 @@ use Rattle.modem_steps.specs.declared.state.Work.{Work}
 use Rattle.modem_steps.specs.State.{pastTek, pushed, starting}
 use Rattle.modem_steps.specs.Slots.{firstSlot, slotOfSaid}
 use Rattle.relisting.specs.Listed.{descriptorAt}
-use Rattle.modem_steps.specs.Relist.{emptied, keptTo, startedIf, startedOne, startedTo, freshTek, listedAnew, relisted}
+use Rattle.modem_reply.specs.Relist.{emptied, keptTo, startedIf, startedOne, startedTo, freshTek, listedAnew, relisted}
 use Rattle.modem_steps.specs.Machine.{authMoment, authStepped, authTold}
-use Rattle.modem_events.specs.Events.{replied}
+use Rattle.modem_reply.specs.Replied.{replied}
 use Rattle.modem_limits.specs.Limits.{saidsOfTeks}
 use Rattle.modem_limits.proofs.LimitsLaws.{Apart}
 use Rattle.modem.proofs.OutLaws.{tek-said}

@@ -24,7 +24,7 @@ use Rattle.modem_steps.specs.declared.state.Work.{Work}
 use Rattle.modem_steps.specs.State.{slotAt, pushed}
 use Rattle.modem_steps.specs.Slots.{tekMoment}
 use Rattle.relisting.specs.Listed.{descriptorAt, lists}
-use Rattle.modem_steps.specs.Relist.{appended, keptIf, keptOne, keptTo, freshTek}
+use Rattle.modem_reply.specs.Relist.{appended, keptIf, keptOne, keptTo, freshTek}
 use Rattle.modem_limits.specs.Limits.{saidsOfTeks}
 use Rattle.modem.proofs.NoneDropped.{messagesOf, sentBy, pushed-messages}
 

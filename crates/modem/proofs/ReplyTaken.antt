@@ -30,8 +30,8 @@ use Rattle.modem_steps.specs.declared.state.Modem.{Modem}
 use Rattle.modem_steps.specs.declared.state.Work.{Work}
 use Rattle.modem_steps.specs.State.{pastTek, slotAt}
 use Rattle.relisting.specs.Listed.{descriptorAt}
-use Rattle.modem_steps.specs.Relist.{freshTek}
-use Rattle.modem_events.specs.Events.{replied}
+use Rattle.modem_reply.specs.Relist.{freshTek}
+use Rattle.modem_reply.specs.Replied.{replied}
 use Rattle.modem_receive.specs.Receive.{fieldsIn, receiveQuestions, received}
 use Rattle.modem_receive.proofs.ReceiveLaws.{identifier-auth, received-5}
 use Rattle.modem_limits.specs.Limits.{saidsOfTeks, modemFits}

@@ -1,21 +1,13 @@
--- What an Authorization Reply, a Reject and an Invalid do to the modem (document 01, "Modem: authorization machine").
+-- What an Authorization Reject and an Invalid do to the modem (document 01, "Modem: authorization machine").
 use Prim.Native.Nat.{ℕ}
 use mathlib.Core.Bool.{Bool, cond, _&&_}
 use lib.Dec.{eqb, ltb}
-use Rattle.wire.specs.declared.fields.Fields.{Fields}
 use Rattle.machines.specs.Transitions.{D, blank, authorizationNext}
 use Rattle.modem_steps.specs.declared.state.Modem.{Modem}
 use Rattle.modem_steps.specs.declared.state.Work.{Work}
 use Rattle.modem_steps.specs.State.{starting}
 use Rattle.modem_steps.specs.Slots.{told, toldAll, slotAsking}
-use Rattle.modem_steps.specs.Relist.{listedAnew, relisted}
-use Rattle.modem_steps.specs.Machine.{authTold, plainEvent}
-
--- A Reply. It is taken in B and D alone: question 11 asks for a waiting Request
-unfoldable pub replied : Modem → Fields → Work
-replied m f =
-    cond (eqb (m .authorization .state) D) (relisted f (authTold (starting m) 4 (f .ak) (f .life)))
-    (listedAnew f (authTold (starting m) 4 (f .ak) (f .life)))
+use Rattle.modem_steps.specs.Machine.{plainEvent}
 
 -- A Reject is event 3 with error 6, event 2 with any other
 unfoldable pub rejectEvent : ℕ → ℕ

@@ -1,28 +1,12 @@
-// What the messages of the authorization machine do to the modem: Authorization Reply, Reject and Invalid.
+// An Authorization Reject and an Authorization Invalid at the modem.
 ghost use mathlib.Core.Path.{_≡_};
-ghost use Prim.Native.Nat.{_≤_};
 ghost use Rattle.modem_steps.specs.State.{Ready};
-ghost use Rattle.modem_events.specs.Events.{replied, rejectEvent, rejected, invalidated};
+ghost use Rattle.modem_events.specs.Events.{rejectEvent, rejected, invalidated};
 use machines::transitions::authorization_next;
 use modem_steps::slots::slot_asking;
 use modem_steps::state::Modem;
 use modem_steps::state::Work;
 use modem_steps::state::start;
-use wire::fields::Fields;
-
-// An Authorization Reply, in B or D.
-pub fn replied(m: Modem, f: Fields) -> Work
-    requires { ⌜ Ready m × (f .life ≤ 12096000) ⌝ }
-    ensures { λ r. ⌜ r ≡ replied m f ⌝ }
-{
-    let a = m.authorization;
-    let ak = f.ak;
-    let w = start(m).auth_told(4, ak, f.life);
-    if a.state == 3 {
-        return w.relisted(f);
-    }
-    w.listed_anew(f)
-}
 
 fn reject_event(error: u8) -> u8
     ensures { λ r. ⌜ r ≡ rejectEvent error ⌝ }

@@ -11,7 +11,8 @@ use Rattle.modem_steps.specs.declared.state.Modem.{Modem}
 use Rattle.modem_steps.specs.declared.state.Work.{Work}
 use Rattle.modem_steps.specs.State.{slotAt, starting}
 use Rattle.modem_steps.specs.Slots.{told, toldReply, slotOfSaid, isWaiting, slotAsking}
-use Rattle.modem_events.specs.Events.{replied, rejected, invalidated}
+use Rattle.modem_reply.specs.Replied.{replied}
+use Rattle.modem_events.specs.Events.{rejected, invalidated}
 use Rattle.modem_receive.specs.Receive.{isKnown, paramsWide, widthsFit, saidKnown, authWaits, tekWaits, identifierFits, received}
 
 asked : (a b k : Bool) → a ≡ true → (not (a || b) || k) ≡ true → k ≡ true

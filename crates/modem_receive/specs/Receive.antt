@@ -17,7 +17,8 @@ use Rattle.modem_steps.specs.declared.state.Modem.{Modem}
 use Rattle.modem_steps.specs.declared.state.Work.{Work}
 use Rattle.modem_steps.specs.State.{slotAt, starting}
 use Rattle.modem_steps.specs.Slots.{told, toldReply, slotOfSaid, isWaiting, slotAsking}
-use Rattle.modem_events.specs.Events.{replied, rejected, invalidated}
+use Rattle.modem_reply.specs.Replied.{replied}
+use Rattle.modem_events.specs.Events.{rejected, invalidated}
 
 -- The codes about one SAID: Key Reply, Key Reject, TEK Invalid. Of those that a modem receives they are the ones with a digest
 abbrev pub ofSaid : ℕ → Bool

@@ -7,7 +7,7 @@ ghost use Rattle.modem_receive.specs.Receive.{ofSaid, paramsWide, widths
 use keys::suites::width;
 use modem_events::events::invalidated;
 use modem_events::events::rejected;
-use modem_events::events::replied;
+use modem_reply::replied::replied;
 use modem_steps::slots::is_waiting;
 use modem_steps::slots::slot_asking;
 use modem_steps::slots::slot_of_said;

@@ -22,10 +22,11 @@ use Rattle.machines.specs.Timers.{isDue}
 use Rattle.machines.specs.Transitions.{nextIn, authorizationTransitions, tekTransitions}
 use Rattle.modem_steps.specs.Clock.{authTimerEvent, tekTimerEvent, authFired, slotFired, slotsFired, clocked}
 use Rattle.modem_steps.specs.Machine.{authStepped, authTold}
-use Rattle.modem_events.specs.Events.{replied, rejectEvent, rejected, invalidated}
+use Rattle.modem_reply.specs.Replied.{replied}
+use Rattle.modem_events.specs.Events.{rejectEvent, rejected, invalidated}
 use Rattle.modem_receive.specs.Receive.{widthsFit, saidKnown, identifierFits, digestHolds, receiveQuestions, received}
 use Rattle.relisting.specs.Listed.{lists}
-use Rattle.modem_steps.specs.Relist.{emptied, appended, keptIf, keptOne, keptTo, startedIf, startedOne, startedTo, listedAnew, relisted}
+use Rattle.modem_reply.specs.Relist.{emptied, appended, keptIf, keptOne, keptTo, startedIf, startedOne, startedTo, listedAnew, relisted}
 use Rattle.modem_steps.specs.Slots.{steppedAt, toldReply, toldAll, firstSlot}
 use Rattle.modem_steps.specs.State.{pushed}
 use Rattle.answer_fields.specs.AnswerFields.{descriptorAt}

@@ -1,8 +1,8 @@
--- `modem_steps::state::Work::kept_one` meets its contract.
-use Rattle.modem_steps.specs.Relist.{keptOne}
+-- `modem_reply::relist::kept_one` meets its contract.
+use Rattle.modem_reply.specs.Relist.{keptOne}
 use borrow.Author.Needs.{needs}
-use Rattle.modem_steps.proofs.state.Work.kept_one.Statement.{statement}
-use Rattle.modem_steps.proofs.state.Work.kept_one.Tie as tie
+use Rattle.modem_reply.proofs.relist.kept_one.Statement.{statement}
+use Rattle.modem_reply.proofs.relist.kept_one.Tie as tie
 
 mul-t : tie.Need-mul-t
 mul-t c = search needs

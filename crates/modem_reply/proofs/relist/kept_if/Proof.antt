@@ -1,10 +1,10 @@
--- `modem_steps::state::Work::kept_if` meets its contract.
-use Rattle.modem_steps.specs.Relist.{keptIf}
+-- `modem_reply::relist::kept_if` meets its contract.
+use Rattle.modem_reply.specs.Relist.{keptIf}
 use borrow.Author.Tests.{not-true, not-false}
 use Rattle.modem_steps.proofs.ReadyLaws.{tek-ready, none-short}
 use borrow.Author.Needs.{needs}
-use Rattle.modem_steps.proofs.state.Work.kept_if.Statement.{statement}
-use Rattle.modem_steps.proofs.state.Work.kept_if.Tie as tie
+use Rattle.modem_reply.proofs.relist.kept_if.Statement.{statement}
+use Rattle.modem_reply.proofs.relist.kept_if.Tie as tie
 
 returns : tie.Need-returns
 unfolding keptIf
@@ -17,7 +17,7 @@ no-params-requires : tie.Need-no-params-requires
 no-params-requires c κs = search needs
 
 step-requires : tie.Need-step-requires
-step-requires c κs = tek-ready (c .before .before .before .before .args .self .modem) (c .before .tek-moment .result) (c .no-params .result) (c .no-params .result) (c .before .tek-moment .ensures) (c .before .before .before .before .pre) (none-short _ (c .no-params .ensures)) (none-short _ (c .no-params .ensures))
+step-requires c κs = tek-ready (c .before .before .before .before .args .w .modem) (c .before .tek-moment .result) (c .no-params .result) (c .no-params .result) (c .before .tek-moment .ensures) (c .before .before .before .before .pre) (none-short _ (c .no-params .ensures)) (none-short _ (c .no-params .ensures))
 
 appended-requires : tie.Need-appended-requires
 appended-requires c κs = search needs

@@ -1,8 +1,8 @@
--- `modem_steps::state::Work::emptied` meets its contract.
-use Rattle.modem_steps.specs.Relist.{emptied}
+-- `modem_reply::relist::emptied` meets its contract.
+use Rattle.modem_reply.specs.Relist.{emptied}
 use borrow.Author.Needs.{needs}
-use Rattle.modem_steps.proofs.state.Work.emptied.Statement.{statement}
-use Rattle.modem_steps.proofs.state.Work.emptied.Tie as tie
+use Rattle.modem_reply.proofs.relist.emptied.Statement.{statement}
+use Rattle.modem_reply.proofs.relist.emptied.Tie as tie
 
 no-tek-requires : tie.Need-no-tek-requires
 no-tek-requires c κs = search needs

@@ -1,8 +1,8 @@
--- `modem_steps::state::Work::listed_anew` meets its contract.
-use Rattle.modem_steps.specs.Relist.{listedAnew}
+-- `modem_reply::relist::listed_anew` meets its contract.
+use Rattle.modem_reply.specs.Relist.{listedAnew}
 use borrow.Author.Needs.{needs}
-use Rattle.modem_steps.proofs.state.Work.listed_anew.Statement.{statement}
-use Rattle.modem_steps.proofs.state.Work.listed_anew.Tie as tie
+use Rattle.modem_reply.proofs.relist.listed_anew.Statement.{statement}
+use Rattle.modem_reply.proofs.relist.listed_anew.Tie as tie
 
 emptied-requires : tie.Need-emptied-requires
 emptied-requires c κs = search needs

@@ -1,8 +1,8 @@
--- `modem_steps::state::Work::relisted` meets its contract.
-use Rattle.modem_steps.specs.Relist.{relisted, keptTo}
+-- `modem_reply::relist::relisted` meets its contract.
+use Rattle.modem_reply.specs.Relist.{relisted, keptTo}
 use borrow.Author.Needs.{needs}
-use Rattle.modem_steps.proofs.state.Work.relisted.Statement.{statement}
-use Rattle.modem_steps.proofs.state.Work.relisted.Tie as tie
+use Rattle.modem_reply.proofs.relist.relisted.Statement.{statement}
+use Rattle.modem_reply.proofs.relist.relisted.Tie as tie
 
 emptied-requires : tie.Need-emptied-requires
 emptied-requires c κs = search needs

@@ -1,8 +1,8 @@
--- `modem_steps::state::Work::started_one` meets its contract.
-use Rattle.modem_steps.specs.Relist.{startedOne}
+-- `modem_reply::relist::started_one` meets its contract.
+use Rattle.modem_reply.specs.Relist.{startedOne}
 use borrow.Author.Needs.{needs}
-use Rattle.modem_steps.proofs.state.Work.started_one.Statement.{statement}
-use Rattle.modem_steps.proofs.state.Work.started_one.Tie as tie
+use Rattle.modem_reply.proofs.relist.started_one.Statement.{statement}
+use Rattle.modem_reply.proofs.relist.started_one.Tie as tie
 
 mul-d : tie.Need-mul-d
 mul-d c = search needs

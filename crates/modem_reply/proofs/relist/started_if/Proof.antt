@@ -1,10 +1,10 @@
--- `modem_steps::state::Work::started_if` meets its contract.
-use Rattle.modem_steps.specs.Relist.{startedIf}
+-- `modem_reply::relist::started_if` meets its contract.
+use Rattle.modem_reply.specs.Relist.{startedIf}
 use borrow.Author.Tests.{not-true, not-false}
 use Rattle.modem_steps.proofs.ReadyLaws.{tek-ready, none-short}
 use borrow.Author.Needs.{needs}
-use Rattle.modem_steps.proofs.state.Work.started_if.Statement.{statement}
-use Rattle.modem_steps.proofs.state.Work.started_if.Tie as tie
+use Rattle.modem_reply.proofs.relist.started_if.Statement.{statement}
+use Rattle.modem_reply.proofs.relist.started_if.Tie as tie
 
 returns : tie.Need-returns
 unfolding startedIf
@@ -20,7 +20,7 @@ fresh-tek-requires : tie.Need-fresh-tek-requires
 fresh-tek-requires c κs = search needs
 
 step-requires : tie.Need-step-requires
-step-requires c κs = tek-ready (c .before .before .before .before .before .args .self .modem) (c .before .before .tek-moment .result) (c .before .no-params .result) (c .before .no-params .result) (c .before .before .tek-moment .ensures) (c .before .before .before .before .before .pre) (none-short _ (c .before .no-params .ensures)) (none-short _ (c .before .no-params .ensures))
+step-requires c κs = tek-ready (c .before .before .before .before .before .args .w .modem) (c .before .before .tek-moment .result) (c .before .no-params .result) (c .before .no-params .result) (c .before .before .tek-moment .ensures) (c .before .before .before .before .before .pre) (none-short _ (c .before .no-params .ensures)) (none-short _ (c .before .no-params .ensures))
 
 appended-requires : tie.Need-appended-requires
 appended-requires c κs = search needs

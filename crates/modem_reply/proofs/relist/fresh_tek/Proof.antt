@@ -1,7 +1,7 @@
--- `modem_steps::relist::fresh_tek` meets its contract.
+-- `modem_reply::relist::fresh_tek` meets its contract.
 use borrow.Author.Needs.{needs}
-use Rattle.modem_steps.proofs.relist.fresh_tek.Statement.{statement}
-use Rattle.modem_steps.proofs.relist.fresh_tek.Tie as tie
+use Rattle.modem_reply.proofs.relist.fresh_tek.Statement.{statement}
+use Rattle.modem_reply.proofs.relist.fresh_tek.Tie as tie
 
 cleared-requires : tie.Need-cleared-requires
 cleared-requires c κs = search needs

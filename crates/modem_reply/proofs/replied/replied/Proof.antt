@@ -1,10 +1,10 @@
--- `modem_events::events::replied` meets its contract.
+-- `modem_reply::replied::replied` meets its contract.
 use Rattle.modem_steps.proofs.ReadyLaws.{started-ready}
-use Rattle.modem_events.specs.Events.{replied}
+use Rattle.modem_reply.specs.Replied.{replied}
 use borrow.Author.Tests.{eq-eqb, ne-eqb}
 use borrow.Author.Needs.{needs}
-use Rattle.modem_events.proofs.events.replied.Statement.{statement}
-use Rattle.modem_events.proofs.events.replied.Tie as tie
+use Rattle.modem_reply.proofs.replied.replied.Statement.{statement}
+use Rattle.modem_reply.proofs.replied.replied.Tie as tie
 
 start-requires : tie.Need-start-requires
 start-requires c κs = search needs

@@ -1,9 +1,9 @@
--- `modem_steps::state::Work::appended` meets its contract.
-use Rattle.modem_steps.specs.Relist.{appended}
+-- `modem_reply::relist::appended` meets its contract.
+use Rattle.modem_reply.specs.Relist.{appended}
 use borrow.Author.Tests.{le-leb, lt-leb}
 use borrow.Author.Needs.{needs}
-use Rattle.modem_steps.proofs.state.Work.appended.Statement.{statement}
-use Rattle.modem_steps.proofs.state.Work.appended.Tie as tie
+use Rattle.modem_reply.proofs.relist.appended.Statement.{statement}
+use Rattle.modem_reply.proofs.relist.appended.Tie as tie
 
 returns : tie.Need-returns
 unfolding appended

@@ -1,8 +1,8 @@
--- `modem_steps::state::Work::started_all` meets its contract.
-use Rattle.modem_steps.specs.Relist.{startedTo}
+-- `modem_reply::relist::started_all` meets its contract.
+use Rattle.modem_reply.specs.Relist.{startedTo}
 use borrow.Author.Needs.{needs}
-use Rattle.modem_steps.proofs.state.Work.started_all.Statement.{statement}
-use Rattle.modem_steps.proofs.state.Work.started_all.Tie as tie
+use Rattle.modem_reply.proofs.relist.started_all.Statement.{statement}
+use Rattle.modem_reply.proofs.relist.started_all.Tie as tie
 
 started-one-requires : tie.Need-started-one-requires
 started-one-requires c κs = search needs

@@ -1,0 +1,2 @@
+pub mod Relist
+pub mod Replied
