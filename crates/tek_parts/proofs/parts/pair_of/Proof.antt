@@ -1,4 +1,5 @@
 -- `tek_parts::parts::pair_of` meets its contract.
+use mathlib.Core.Path.{refl}
 use borrow.Author.Needs.{needs}
 use Rattle.tek_parts.proofs.parts.pair_of.Statement.{statement}
 use Rattle.tek_parts.proofs.parts.pair_of.Tie as tie
@@ -10,7 +11,7 @@ key-of-requires-2 : tie.Need-key-of-requires-2
 key-of-requires-2 c κs = search needs
 
 returns : tie.Need-returns
-returns c = cc
+returns c = simp (c .before .key-of .ensures, c .key-of2 .ensures) refl
 
 pub pair-of-spec : {M : Type 1} → statement M
 pair-of-spec = tie.close (tie.spec key-of-requires key-of-requires-2 returns)
