@@ -1,6 +1,7 @@
 -- What an event does to a TEK machine (document 01, "Modem: TEK machine, one per SAID").
 use Prim.Native.Nat.{ℕ, _+_, _-_, _≤_}
-use mathlib.Core.Bool.{cond, _||_}
+use mathlib.Core.Path.{_≡_}
+use mathlib.Core.Bool.{Bool, false, cond, _||_}
 use lib.Dec.{eqb}
 use Rattle.key_numbers.specs.declared.numbers.AkNumber.{AkNumber}
 use Rattle.wire.specs.declared.fields.Params.{Params}
@@ -29,10 +30,16 @@ tekTimer to x newer =
 -- ---- keys
 
 -- Events 1, 5 and 9 drop the keys; event 8 stores the pair
+abbrev pub dropsPair : ℕ → Bool
+dropsPair event = eqb event 1 || eqb event 5 || eqb event 9
+
+abbrev pub storesPair : ℕ → Bool
+storesPair event = eqb event 8
+
 unfoldable pub pairAfter : ℕ → Tek → ℕ → Params → Params → Pair
 pairAfter event t clock older newer =
-    cond (eqb event 1 || eqb event 5 || eqb event 9) noPair
-    (cond (eqb event 8) (pairOf clock older newer)
+    cond (dropsPair event) noPair
+    (cond (storesPair event) (pairOf clock older newer)
     (t .pair))
 
 -- A Key Request names the authorization key of the last Reply
@@ -66,6 +73,10 @@ tekStays t x = record { machine = t; counter = x .counter; sends = nothing }
 unfoldable pub tekStepOf : Tek → ℕ → TekMoment → Params → Params → TekStep
 tekStepOf t event x older newer =
     cond (eqb (tekNext event (t .state)) blank) (tekStays t x) (tekMoved event (tekNext event (t .state)) t x older newer)
+
+-- The matrix has a transition for this event in this state
+abbrev pub HasTransition : ℕ → ℕ → Type 0
+HasTransition event from = eqb (tekNext event from) blank ≡ false
 
 -- What a step asks so that no sum wraps
 pub record TekReady (x : TekMoment) (older newer : Params) : Type 0 where

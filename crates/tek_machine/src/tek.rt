@@ -1,7 +1,7 @@
 // The TEK machine of one SAID.
 ghost use mathlib.Core.Path.{_≡_};
 ghost use Prim.Native.Nat.{_+_, _≤_};
-ghost use Rattle.tek_machine.specs.Tek.{identifierAfter, tekTimer, pairAfter, tekSends, tekMoved, tekStepOf, TekReady};
+ghost use Rattle.tek_machine.specs.Tek.{identifierAfter, tekTimer, dropsPair, storesPair, HasTransition, pairAfter, tekSends, tekMoved, tekStepOf, TekReady};
 use key_numbers::numbers::AkNumber;
 use machines::identifier::next_identifier;
 use machines::timer::Timer;
@@ -64,6 +64,20 @@ fn timer_after(to: u8, x: TekMoment, newer: Params) -> Timer
     cleared()
 }
 
+fn is_dropping(event: u8) -> bool
+    ensures { λ r. ⌜ r ≡ dropsPair event ⌝ }
+{
+    (event == 1) | (event == 5) | (event == 9)
+}
+
+// A Key Reply is taken in B, the first exchange, and in E, every later one.
+fn is_storing(event: u8, from: u8) -> bool
+    requires { ⌜ HasTransition event from ⌝ }
+    ensures { λ r. ⌜ r ≡ storesPair event ⌝ }
+{
+    (event == 8) & ((from == 1) | (from == 4))
+}
+
 impl Tek {
     fn identifier_after(self, event: u8, to: u8, x: TekMoment) -> u8
         ensures { λ r. ⌜ r ≡ identifierAfter event to self x ⌝ }
@@ -75,13 +89,13 @@ impl Tek {
     }
 
     fn pair_after(self, event: u8, clock: u64, older: Params, newer: Params) -> Pair
-        requires { ⌜ (clock ≤ 1000000000000) × ((older .life ≤ 604800) × (newer .life ≤ 604800)) ⌝ }
+        requires { ⌜ (clock ≤ 1000000000000) × ((older .life ≤ 604800) × ((newer .life ≤ 604800) × HasTransition event (self .state))) ⌝ }
         ensures { λ r. ⌜ r ≡ pairAfter event self clock older newer ⌝ }
     {
-        if (event == 1) | (event == 5) | (event == 9) {
+        if is_dropping(event) {
             return no_pair();
         }
-        if event == 8 {
+        if is_storing(event, self.state) {
             return pair_of(clock, older, newer);
         }
         self.pair
@@ -103,7 +117,7 @@ impl Tek {
     }
 
     fn moved(self, event: u8, to: u8, x: TekMoment, older: Params, newer: Params) -> TekStep
-        requires { ⌜ TekReady x older newer ⌝ }
+        requires { ⌜ TekReady x older newer × HasTransition event (self .state) ⌝ }
         ensures { λ r. ⌜ r ≡ tekMoved event to self x older newer ⌝ }
     {
         let identifier = self.identifier_after(event, to, x);

@@ -17,7 +17,9 @@ unfolding tekStepOf
 returns c = simp (eq-eqb _ _ (sym (c .before .before .tek-next .ensures) ∙ c .before .if1 .taken)) (cc)
 
 moved-requires : tie.Need-moved-requires
-moved-requires c κs = search needs
+moved-requires c κs =
+    let to = c .before .tek-next .ensures in
+    (search needs, ne-eqb _ _ (λ e. c .if1 .left (to ∙ e)))
 
 returns-2 : tie.Need-returns-2
 unfolding tekStepOf
