@@ -3,25 +3,14 @@
 without the names of libraries. Run it at the repository's top after `.ci/run` or `rt must-fail`."""
 import os
 import re
+import sys
 import textwrap
+
+sys.dont_write_bytecode = True
+from edit_logs import first_error
 
 LIBRARIES = r"(?:Rattle·[\w·]+|mathlib|native|lib|borrow|Prim)(?:\.[A-Z][\w·]*)*\.(?:proofs\.|specs\.)*"
 LONGEST = 380
-
-
-def first_error(crate, label):
-    """Where it is, and what it says."""
-    lines = open(os.path.join("target", "must-fail", crate, label, ".log"), errors="replace").read().split("\n")
-    for at, line in enumerate(lines):
-        found = re.match(r"\S*?/((?:src|specs|proofs)/\S+): error: (.*)", line)
-        if found:
-            said = [found.group(2)]
-            for more in lines[at + 1 :]:
-                if not more.startswith("  "):
-                    break
-                said.append(more.strip())
-            return found.group(1), " ".join(said)
-    return None
 
 
 def shortened(said):
@@ -30,9 +19,10 @@ def shortened(said):
 
 
 def block(match):
-    told = first_error(match.group(2), match.group(3))
+    log = os.path.join("target", "must-fail", match.group(2), match.group(3), ".log")
+    told = first_error(open(log, errors="replace").read())
     if told is None:
-        print("no error with a place in the log of %s/%s" % (match.group(2), match.group(3)))
+        print("no error with a place in %s" % log)
         return match.group(0)
     return "%s\n\n```\n%s\n%s\n```" % (match.group(1), told[0], "\n".join(textwrap.wrap(shortened(told[1]), 140, break_long_words=False)))
 
