@@ -2,6 +2,7 @@
 use Rattle.modem_steps.proofs.ReadyLaws.{started-ready}
 use Rattle.modem_steps.specs.State.{withClock}
 use Rattle.modem_steps.specs.Clock.{clocked, slotsFired}
+use mathlib.Core.Path.{refl}
 use borrow.Author.Needs.{needs}
 use Rattle.modem_clock.proofs.clock.clocked.Statement.{statement}
 use Rattle.modem_clock.proofs.clock.clocked.Tie as tie
@@ -26,7 +27,16 @@ slot-fired-requires-4 c κs = search needs
 
 returns : tie.Need-returns
 unfolding clocked slotsFired
-returns c = cc
+returns c =
+    rw (
+      c .slot-fired4 .ensures .0,
+      c .before .slot-fired3 .ensures .0,
+      c .before .before .slot-fired2 .ensures .0,
+      c .before .before .before .slot-fired .ensures .0,
+      c .before .before .before .before .auth-fired .ensures .0,
+      c .before .before .before .before .before .start .ensures,
+    )
+    refl
 
 pub clocked-spec : {M : Type 1} → statement M
 clocked-spec =

@@ -1,6 +1,7 @@
 -- `modem_events::events::rejected` meets its contract.
 use Rattle.modem_steps.proofs.ReadyLaws.{started-ready}
 use Rattle.modem_events.specs.Events.{rejected}
+use mathlib.Core.Path.{refl}
 use borrow.Author.Tests.{eq-eqb, ne-eqb}
 use borrow.Author.Needs.{needs}
 use Rattle.modem_events.proofs.events.rejected.Statement.{statement}
@@ -20,11 +21,26 @@ told-all-requires c κs = search needs
 
 returns : tie.Need-returns
 unfolding rejected
-returns c = simp (eq-eqb _ _ (c .before .if1 .taken)) (cc)
+returns c =
+    simp (
+      eq-eqb _ _ (c .before .if1 .taken),
+      c .told-all .ensures .0,
+      c .before .before .before .plain-event .ensures .0,
+      c .before .before .before .before .reject-event .ensures,
+      c .before .before .before .before .before .start .ensures,
+    )
+    refl
 
 returns-2 : tie.Need-returns-2
 unfolding rejected
-returns-2 c = simp (ne-eqb _ _ (c .if1 .left)) (cc)
+returns-2 c =
+    simp (
+      ne-eqb _ _ (c .if1 .left),
+      c .before .before .plain-event .ensures .0,
+      c .before .before .before .reject-event .ensures,
+      c .before .before .before .before .start .ensures,
+    )
+    refl
 
 pub rejected-spec : {M : Type 1} → statement M
 rejected-spec =

@@ -1,5 +1,9 @@
 -- `modem_limits::limits::tek_fits` meets its contract.
-use Rattle.modem_limits.specs.Limits.{tekFits}
+use Rattle.modem_limits.specs.Limits.{pairHeldFits, tekFits}
+use Rattle.keys.specs.Suites.{widthOf}
+use Rattle.machines.specs.Transitions.{D}
+use mathlib.Core.Path.{_≡_, refl}
+use lib.Dec.{leb}
 use borrow.Author.Needs.{needs}
 use Rattle.modem_limits.proofs.limits.tek_fits.Statement.{statement}
 use Rattle.modem_limits.proofs.limits.tek_fits.Tie as tie
@@ -21,7 +25,17 @@ pair-held-fits-requires c κs = search needs
 
 returns : tie.Need-returns
 unfolding tekFits
-returns c = cc
+returns c =
+    let x = c .before .before .before .before .before .before .before .before .args in
+    let held : c .pair-held-fits .result ≡ pairHeldFits (leb D (x .t .state)) (widthOf (x .t .suite)) (x .clock) (x .t .pair) =
+    rw (c .pair-held-fits .ensures, c .before .width .ensures .0) refl in
+    simp (
+      held,
+      c .before .before .timer-fits .ensures,
+      c .before .before .before .longest-wait .ensures,
+      c .before .before .before .before .suite-known .ensures,
+    )
+    refl
 
 pub tek-fits-spec : {M : Type 1} → statement M
 tek-fits-spec =
