@@ -11,7 +11,8 @@ use native.Mathlib.Numerals.{towards-suc}
 use borrow.Author.Tests.{leb-true, leb-false, ltb-true, ltb-false}
 use Rattle.wire.specs.Attributes.{Item, attr, cut, item, itemsWith, items}
 use Rattle.wire.proofs.AttributesLaws.{items-attr, items-cut, items-few}
-use Rattle.attributes.specs.Next.{lengthAt, pickNext, nextAt}
+use Rattle.attributes.specs.Next.{lengthAt, pickNext, nextAt, placeAfter, stepAt, Says}
+use Rattle.attributes.specs.declared.attribute.Step.{Step}
 use Rattle.attributes.specs.declared.attribute.Next.{Next}
 use Rattle.attributes.specs.declared.attribute.Next.the-variants.{Attr, Cut, End}
 
@@ -63,18 +64,36 @@ nextAt-at s at = go (leb (length s) at) refl (ltb (length s - at) 3) refl (leb (
         let h : at + 3 ≤ length s = omega (arith, leb-false, ltb-false) in
         ap items (head s at h) ∙ items-cut _ _ _ _ (simp length-drop (omega (arith, leb-false)))
 
--- what a `match` on the result r of `next_at` says
-module _ (s : List ℕ) (at : ℕ) {r : Next} (e : r ≡ nextAt s at) where
-  is : (q : Next) → r ≡ q → At s at q
-  is q g = subst (At s at) (sym e ∙ g) (nextAt-at s at)
+-- number, values and the others, in document 01's list
+pub nextAt-says : (s : List ℕ) (at : ℕ) → Says s at (nextAt s at) (placeAfter at (nextAt s at))
+nextAt-says s at = go (nextAt s at) (nextAt-at s at)
+  where
+    go : (r : Next) → At s at r → Says s at r (placeAfter at r)
+    go (Attr k start n) f = record { number = rw (f .here) refl; values = rw (f .here) refl; others = rw (f .here) refl }
+    go Cut e = record { number = rw e refl; values = rw e refl; others = rw e refl }
+    go End e = record { number = rw e refl; values = rw e refl; others = rw e refl }
 
-  pub at-attr : {k start n : ℕ} → r ≡ Attr k start n → Found s at k start n
+pub step-says : {s : List ℕ} {at : ℕ} {r : Step} → r ≡ stepAt s at → (r ≡ stepAt s at) × Says s at (r .attribute) (r .at)
+step-says {s} {at} {r} e = (e, subst (λ (x : Step). Says s at (x .attribute) (x .at)) (sym e) (nextAt-says s at))
+
+pub step-made : {s : List ℕ} {at : ℕ} {r : Step} → r .attribute ≡ nextAt s at → r .at ≡ placeAfter at (nextAt s at) → (r ≡ stepAt s at) × Says s at (r .attribute) (r .at)
+step-made {s} {at} {r} e g = step-says (λ i. record { attribute = e i; at = g i })
+
+-- what a `match` on the result r of `next_at` says
+module _ (s : List ℕ) (at : ℕ) {r : Step} (e : r ≡ stepAt s at) where
+  is : (q : Next) → r .attribute ≡ q → At s at q
+  is q g = subst (At s at) (sym (ap (λ (x : Step). x .attribute) e) ∙ g) (nextAt-at s at)
+
+  pub at-attr : {k start n : ℕ} → r .attribute ≡ Attr k start n → Found s at k start n
   at-attr {k} {start} {n} g = is (Attr k start n) g
 
-  pub at-cut : r ≡ Cut → items (drop at s) ≡ cut ∷ []
+  pub at-behind : {k start n : ℕ} → r .attribute ≡ Attr k start n → r .at ≡ start + n
+  at-behind g = ap (λ (x : Step). x .at) e ∙ ap (placeAfter at) (sym (ap (λ (x : Step). x .attribute) e) ∙ g)
+
+  pub at-cut : r .attribute ≡ Cut → items (drop at s) ≡ cut ∷ []
   at-cut g = is Cut g
 
-  pub at-stop : r ≡ End → items (drop at s) ≡ []
+  pub at-stop : r .attribute ≡ End → items (drop at s) ≡ []
   at-stop g = is End g
 
 pub items-past : (s : List ℕ) (at : ℕ) → length s ≤ at → items (drop at s) ≡ []

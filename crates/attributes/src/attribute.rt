@@ -1,6 +1,6 @@
 // One attribute at a place of a holder: type (1 octet), length (2), value (document 01, Messages).
 ghost use mathlib.Core.Path.{_≡_};
-ghost use Rattle.attributes.specs.Next.{nextAt};
+ghost use Rattle.attributes.specs.Next.{stepAt, Says};
 
 // What stands at a place of a holder.
 pub enum Next {
@@ -12,24 +12,43 @@ pub enum Next {
     End,
 }
 
-pub fn next_at(s: &[u8], at: usize) -> Next
-    ensures { λ r. ⌜ r ≡ nextAt (now (s .entry)) at ⌝ }
+// What stands at a place, and the place behind it.
+pub struct Step {
+    pub attribute: Next,
+    pub at: usize,
+}
+
+pub fn next_at(s: &[u8], at: usize) -> Step
+    ensures { λ r. ⌜ (r ≡ stepAt (now (s .entry)) at) × Says (now (s .entry)) at (r .attribute) (r .at) ⌝ }
 {
     if s.len() <= at {
-        return Next::End;
+        return Step {
+            attribute: Next::End,
+            at,
+        };
     }
     let left = s.len() - at;
     if left < 3 {
-        return Next::Cut;
+        return Step {
+            attribute: Next::Cut,
+            at,
+        };
     }
     let len = (s[at + 1] as usize) * 256 + (s[at + 2] as usize);
     if len <= left - 3 {
-        Next::Attr {
-            kind: s[at],
-            start: at + 3,
-            len,
+        let start = at + 3;
+        Step {
+            attribute: Next::Attr {
+                kind: s[at],
+                start,
+                len,
+            },
+            at: start + len,
         }
     } else {
-        Next::Cut
+        Step {
+            attribute: Next::Cut,
+            at,
+        }
     }
 }

@@ -1,7 +1,8 @@
 // The attribute reader: a struct of a holder's octets and a place. Its functions take it apart and leave the work to `next_at`.
 ghost use mathlib.Core.Path.{_≡_};
-ghost use Rattle.attributes.specs.Next.{nextAt};
+ghost use Rattle.attributes.specs.Next.{stepAt, steppedFrom, Says};
 use crate::attribute::Next;
+use crate::attribute::Step;
 use crate::attribute::next_at;
 
 pub struct Attributes<'a> {
@@ -9,10 +10,10 @@ pub struct Attributes<'a> {
     pub at: usize,
 }
 
-pub fn next<'a>(r: Attributes<'a>) -> Next
-    ensures { λ s. ⌜ s ≡ nextAt (now (r .entry .message)) (r .entry .at) ⌝ }
-{
-    next_at(r.message, r.at)
+// What stands at a reader's place, and the reader behind it.
+pub struct Stepped<'a> {
+    pub attribute: Next,
+    pub rest: Attributes<'a>,
 }
 
 pub fn opened<'a>(message: &'a [u8], at: usize) -> Attributes<'a>
@@ -21,9 +22,27 @@ pub fn opened<'a>(message: &'a [u8], at: usize) -> Attributes<'a>
     Attributes { message, at }
 }
 
-// What stands at a place, through the struct. Its parameters are plain, so the passes that call it need no walk by hand.
-pub fn attribute_at<'a>(s: &'a [u8], at: usize) -> Next
-    ensures { λ r. ⌜ r ≡ nextAt (now (s .entry)) at ⌝ }
+pub fn next<'a>(r: Attributes<'a>) -> Stepped<'a>
+    ensures { λ s. ⌜ (s ≡ steppedFrom (r .entry)) × Says (now (r .entry .message)) (r .entry .at) (s .attribute) (s .rest .at) ⌝ }
 {
-    next(opened(s, at))
+    let n = next_at(r.message, r.at);
+    let rest = Attributes {
+        message: r.message,
+        at: n.at,
+    };
+    Stepped {
+        attribute: n.attribute,
+        rest,
+    }
+}
+
+// What stands at a place, and the place that the reader goes on to. The parameters are plain, so the passes that call it need no walk by hand.
+pub fn attribute_at<'a>(s: &'a [u8], at: usize) -> Step
+    ensures { λ r. ⌜ (r ≡ stepAt (now (s .entry)) at) × Says (now (s .entry)) at (r .attribute) (r .at) ⌝ }
+{
+    let n = next(opened(s, at));
+    Step {
+        attribute: n.attribute,
+        at: n.rest.at,
+    }
 }

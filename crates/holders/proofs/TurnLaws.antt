@@ -22,22 +22,22 @@ inside-step : (h at a m k : ℕ) (r : Inside) (v : List ℕ) (l : List Item) →
 unfolding insideFrom
 inside-step h at a m k r v l e g = rw (e, ← g) refl
 
-module _ {s : List ℕ} {at k start n : ℕ} (f : Found s at k start n) (h : ℕ) (r : Inside) where
+module _ {s : List ℕ} {at k start n next : ℕ} (f : Found s at k start n) (p : next ≡ start + n) (h : ℕ) (r : Inside) where
   inside-found : insideFrom h at r (items (drop at s))
       ≡ insideFrom h (start + n) (insideTurn h start k (take n (drop start s)) r) (items (drop (start + n) s))
   inside-found = ap (insideFrom h at r) (f .here) ∙ inside-step h at start n k r _ _ (f .starts) (found-length f)
 
   pub inside-other : {i : ℕ} → i ≡ insideSlot h k → 4 ≤ i
-      → insideFrom h (start + n) r (items (drop (start + n) s)) ≡ insideFrom h at r (items (drop at s))
+      → insideFrom h next r (items (drop next s)) ≡ insideFrom h at r (items (drop at s))
   unfolding insideTurn
-  inside-other {i} e big = rw (inside-found, ← e, le-leb 4 i big) refl
+  inside-other {i} e big = rw (p, inside-found, ← e, le-leb 4 i big) refl
 
-  pub inside-noted : {i : ℕ} {b : Bool} {x : Slot} → i ≡ insideSlot h k → i < 4 → b ≡ fits h k (take (start + n - start) (drop start s))
+  pub inside-noted : {i : ℕ} {b : Bool} {x : Slot} → i ≡ insideSlot h k → i < 4 → b ≡ fits h k (take (next - start) (drop start s))
       → x ≡ notedOf (getD (r .slots) i noSlot) start n
-      → insideFrom h (start + n) (insideRecord (r .sound && b) (set (r .slots) i x)) (items (drop (start + n) s))
+      → insideFrom h next (insideRecord (r .sound && b) (set (r .slots) i x)) (items (drop next s))
       ≡ insideFrom h at r (items (drop at s))
   unfolding insideTurn
-  inside-noted {i} e small b x = rw (inside-found, ← e, lt-leb 4 i small, b, x, add-sub-cancel-left, found-length f) refl
+  inside-noted {i} e small b x = rw (b, x, p, inside-found, ← e, lt-leb 4 i small, add-sub-cancel-left, found-length f) refl
 
 pub inside-cut : {l : List Item} (h at : ℕ) (r : Inside) → l ≡ cut ∷ [] → insideFrom h at r l ≡ insideRecord false (r .slots)
 unfolding insideFrom
@@ -53,39 +53,39 @@ body-step : (h at a m k : ℕ) (r : Body) (v : List ℕ) (l : List Item) → a �
 unfolding bodyFrom
 body-step h at a m k r v l e g = rw (e, ← g) refl
 
-module _ {s : List ℕ} {at k start n : ℕ} (f : Found s at k start n) (h : ℕ) (r : Body) where
+module _ {s : List ℕ} {at k start n next : ℕ} (f : Found s at k start n) (p : next ≡ start + n) (h : ℕ) (r : Body) where
   body-found : bodyFrom h at r (items (drop at s))
       ≡ bodyFrom h (start + n) (bodyTurn h start k (take n (drop start s)) r) (items (drop (start + n) s))
   body-found = ap (bodyFrom h at r) (f .here) ∙ body-step h at start n k r _ _ (f .starts) (found-length f)
 
   pub body-other : {i : ℕ} → i ≡ bodySlot h k → 7 ≤ i
-      → bodyFrom h (start + n) (bodyRecord (r .sound) k (r .slots) (r .count) (r .compounds)) (items (drop (start + n) s))
+      → bodyFrom h next (bodyRecord (r .sound) k (r .slots) (r .count) (r .compounds)) (items (drop next s))
       ≡ bodyFrom h at r (items (drop at s))
   unfolding bodyTurn
-  body-other {i} e big = rw (body-found, ← e, le-leb 7 i big) refl
+  body-other {i} e big = rw (p, body-found, ← e, le-leb 7 i big) refl
 
-  pub body-noted : {i : ℕ} {b : Bool} {x : Slot} → i ≡ bodySlot h k → i < 6 → b ≡ fits h k (take (start + n - start) (drop start s))
+  pub body-noted : {i : ℕ} {b : Bool} {x : Slot} → i ≡ bodySlot h k → i < 6 → b ≡ fits h k (take (next - start) (drop start s))
       → x ≡ notedOf (getD (r .slots) i noSlot) start n
-      → bodyFrom h (start + n) (bodyRecord (r .sound && b) k (set (r .slots) i x) (r .count) (r .compounds)) (items (drop (start + n) s))
+      → bodyFrom h next (bodyRecord (r .sound && b) k (set (r .slots) i x) (r .count) (r .compounds)) (items (drop next s))
       ≡ bodyFrom h at r (items (drop at s))
   unfolding bodyTurn
   body-noted {i} e small b x =
       let below : i < 7 = omega arith in
-      rw (body-found, ← e, lt-leb 7 i below, lt-ltb i 6 small, b, x, add-sub-cancel-left, found-length f) refl
+      rw (b, x, p, body-found, ← e, lt-leb 7 i below, lt-ltb i 6 small, add-sub-cancel-left, found-length f) refl
 
   pub body-kept : {i : ℕ} → i ≡ bodySlot h k → i < 7 → 6 ≤ i → r .count < 4
-      → bodyFrom h (start + n) (bodyRecord (r .sound) k (r .slots) (r .count + 1) (set (r .compounds) (r .count) (record { start = start; len = n }))) (items (drop (start + n) s))
+      → bodyFrom h next (bodyRecord (r .sound) k (r .slots) (r .count + 1) (set (r .compounds) (r .count) (record { start = start; len = n }))) (items (drop next s))
       ≡ bodyFrom h at r (items (drop at s))
   unfolding bodyTurn
   body-kept {i} e small big few =
-      rw (body-found, ← e, lt-leb 7 i small, le-ltb i 6 big, lt-ltb (r .count) 4 few, found-length f) refl
+      rw (p, body-found, ← e, lt-leb 7 i small, le-ltb i 6 big, lt-ltb (r .count) 4 few, found-length f) refl
 
-  pub body-later : {i : ℕ} {q : Inside} → i ≡ bodySlot h k → i < 7 → 6 ≤ i → 4 ≤ r .count → q ≡ insidePass k (take (start + n - start) (drop start s))
-      → bodyFrom h (start + n) (bodyRecord (r .sound && q .sound) k (r .slots) 5 (r .compounds)) (items (drop (start + n) s))
+  pub body-later : {i : ℕ} {q : Inside} → i ≡ bodySlot h k → i < 7 → 6 ≤ i → 4 ≤ r .count → q ≡ insidePass k (take (next - start) (drop start s))
+      → bodyFrom h next (bodyRecord (r .sound && q .sound) k (r .slots) 5 (r .compounds)) (items (drop next s))
       ≡ bodyFrom h at r (items (drop at s))
   unfolding bodyTurn
   body-later {i} e small big many q =
-      rw (body-found, ← e, lt-leb 7 i small, le-ltb i 6 big, le-ltb (r .count) 4 many, q, add-sub-cancel-left) refl
+      rw (q, p, body-found, ← e, lt-leb 7 i small, le-ltb i 6 big, le-ltb (r .count) 4 many, add-sub-cancel-left) refl
 
 pub body-cut : {l : List Item} (h at : ℕ) (r : Body) → l ≡ cut ∷ []
     → bodyFrom h at r l ≡ bodyRecord false 256 (r .slots) (r .count) (r .compounds)

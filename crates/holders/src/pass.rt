@@ -68,9 +68,11 @@ pub fn pass_inside(s: &[u8], h: u8) -> Inside
     let mut at: usize = 0;
     let mut r = no_inside();
     loop {
-        match attribute_at(s, at) {
+        let n = attribute_at(s, at);
+        let found = n.attribute;
+        match found {
             Next::Attr { kind, start, len } => {
-                at = start + len;
+                at = n.at;
                 let i = inside_slot(h, kind);
                 if 4 <= i {
                     continue;
@@ -115,9 +117,11 @@ pub fn pass_body(m: &[u8], h: u8) -> Body
     let mut at: usize = 4;
     let mut r = no_body();
     loop {
-        match attribute_at(m, at) {
+        let n = attribute_at(m, at);
+        let found = n.attribute;
+        match found {
             Next::Attr { kind, start, len } => {
-                at = start + len;
+                at = n.at;
                 r.last = kind as usize;
                 let i = body_slot(h, kind);
                 if 7 <= i {
@@ -131,11 +135,11 @@ pub fn pass_body(m: &[u8], h: u8) -> Body
                     r.slots[i] = u;
                     continue;
                 }
-                let n = r.count;
-                if n < 4 {
+                let c = r.count;
+                if c < 4 {
                     let p = Place { start, len };
-                    r.compounds[n] = p;
-                    r.count = n + 1;
+                    r.compounds[c] = p;
+                    r.count = c + 1;
                     continue;
                 }
                 let later = pass_inside(v, kind);

@@ -1,5 +1,5 @@
 -- `holders::pass::pass_body` meets its contract.
-use Prim.Native.Nat.{_-_, _≤_}
+use Prim.Native.Nat.{_+_, _-_, _≤_}
 use mathlib.Core.Path.{_≡_, sym, ap, _∙_}
 use native.Mathlib.Omega.{arith}
 use lib.ListN.{length, drop}
@@ -8,7 +8,7 @@ use borrow.Author.Needs.{needs}
 use Rattle.wire.specs.Attributes.{items}
 use Rattle.holders.specs.declared.pass.Body.{Body}
 use Rattle.holders.specs.Pass.{bodyFrom, bodyPass}
-use Rattle.attributes.proofs.ItemLaws.{Found, at-attr, at-cut, at-stop}
+use Rattle.attributes.proofs.ItemLaws.{Found, at-attr, at-behind, at-cut, at-stop}
 use Rattle.holders.proofs.TurnLaws.{body-other, body-noted, body-kept, body-later, body-cut, body-end}
 use Rattle.holders.proofs.pass.pass_body.Statement.{statement}
 use Rattle.holders.proofs.pass.pass_body.Tie as tie
@@ -29,16 +29,17 @@ loop-holds c = (omega arith, ap (λ (r : Body). bodyFrom (c .before .before .arg
 attribute-at-requires : tie.Need-attribute-at-requires Inv-loop μ-loop
 attribute-at-requires c κs = search needs
 
-enum-known-kind : tie.Need-enum-known-kind Inv-loop μ-loop
-enum-known-kind c = search needs
+enum-known-found : tie.Need-enum-known-found Inv-loop μ-loop
+enum-known-found c = search needs
 
 -- the attribute that was found
-found : (c : tie.After-kind Inv-loop μ-loop)
-    → Found (now (c .before .before .before .before .before .before .args .m)) (c .before .before .before .loop .at) (c .kind .given .0 .0) (c .kind .given .0 .1 .0) (c .kind .given .0 .1 .1 .0)
-found c = at-attr _ _ (c .before .before .attribute-at .ensures) (c .kind .given .1)
+found : (c : tie.After-found Inv-loop μ-loop)
+    → Found (now (c .before .before .before .before .before .before .args .m)) (c .before .before .before .loop .at) (c .found .given .0 .0) (c .found .given .0 .1 .0) (c .found .given .0 .1 .1 .0)
+found c = at-attr _ _ (c .before .before .attribute-at .ensures .0) (c .found .given .1)
 
-add-at : tie.Need-add-at Inv-loop μ-loop
-add-at c = omega (arith, found (c .before))
+-- the reader goes on behind it
+behind : (c : tie.After-found Inv-loop μ-loop) → c .before .before .attribute-at .result .at ≡ c .found .given .0 .1 .0 + c .found .given .0 .1 .1 .0
+behind c = at-behind _ _ (c .before .before .attribute-at .ensures .0) (c .found .given .1)
 
 cast-r : tie.Need-cast-r Inv-loop μ-loop
 cast-r c = search needs
@@ -47,19 +48,19 @@ body-slot-requires : tie.Need-body-slot-requires Inv-loop μ-loop
 body-slot-requires c κs = search needs
 
 loop-less : tie.Need-loop-less Inv-loop μ-loop
-loop-less c = omega (arith, found (c .before .before .before))
+loop-less c = omega (arith, found (c .before .before .before), behind (c .before .before .before))
 
 loop-again : tie.Need-loop-again Inv-loop μ-loop
-loop-again c = (omega (arith, found (c .before .before .before)), body-other (found (c .before .before .before)) _ (c .before .before .before .before .before .before .loop .r) (c .before .body-slot .ensures) (c .if1 .taken) ∙ c .before .before .before .before .before .before .loop .inv .1)
+loop-again c = (omega (arith, found (c .before .before .before), behind (c .before .before .before)), body-other (found (c .before .before .before)) (behind (c .before .before .before)) _ (c .before .before .before .before .before .before .loop .r) (c .before .body-slot .ensures) (c .if1 .taken) ∙ c .before .before .before .before .before .before .loop .inv .1)
 
 sub-v : tie.Need-sub-v Inv-loop μ-loop
-sub-v c = search needs
+sub-v c = omega (arith, behind (c .before .before .before))
 
 part-v-start : tie.Need-part-v-start Inv-loop μ-loop
-part-v-start c = search needs
+part-v-start c = omega (arith, behind (c .before .before .before))
 
 part-v-end : tie.Need-part-v-end Inv-loop μ-loop
-part-v-end c = omega (arith, found (c .before .before .before))
+part-v-end c = omega (arith, found (c .before .before .before), behind (c .before .before .before))
 
 in-range-requires : tie.Need-in-range-requires Inv-loop μ-loop
 in-range-requires c κs = search needs
@@ -80,12 +81,12 @@ element-set-from-u : tie.Need-element-set-from-u Inv-loop μ-loop
 element-set-from-u c = search needs
 
 loop-less-2 : tie.Need-loop-less-2 Inv-loop μ-loop
-loop-less-2 c = omega (arith, found (c .before .before .before .before .before .before .before .before))
+loop-less-2 c = omega (arith, found (c .before .before .before .before .before .before .before .before), behind (c .before .before .before .before .before .before .before .before))
 
 loop-again-2 : tie.Need-loop-again-2 Inv-loop μ-loop
 loop-again-2 c = (
-  omega (arith, found (c .before .before .before .before .before .before .before .before)),
-  body-noted (found (c .before .before .before .before .before .before .before .before)) _ (c .before .before .before .before .before .before .before .before .before .before .before .loop .r) (c .before .before .before .before .before .before .body-slot .ensures) (c .before .before .before .if2 .taken) (c .before .before .in-range .ensures) (c .noted .ensures)
+  omega (arith, found (c .before .before .before .before .before .before .before .before), behind (c .before .before .before .before .before .before .before .before)),
+  body-noted (found (c .before .before .before .before .before .before .before .before)) (behind (c .before .before .before .before .before .before .before .before)) _ (c .before .before .before .before .before .before .before .before .before .before .before .loop .r) (c .before .before .before .before .before .before .body-slot .ensures) (c .before .before .before .if2 .taken) (c .before .before .in-range .ensures) (c .noted .ensures)
       ∙ c .before .before .before .before .before .before .before .before .before .before .before .loop .inv .1,
 )
 
@@ -99,24 +100,24 @@ add-r : tie.Need-add-r Inv-loop μ-loop
 add-r c = search needs
 
 loop-less-3 : tie.Need-loop-less-3 Inv-loop μ-loop
-loop-less-3 c = omega (arith, found (c .before .before .before .before .before .before))
+loop-less-3 c = omega (arith, found (c .before .before .before .before .before .before), behind (c .before .before .before .before .before .before))
 
 loop-again-3 : tie.Need-loop-again-3 Inv-loop μ-loop
 loop-again-3 c = (
-  omega (arith, found (c .before .before .before .before .before .before)),
-  body-kept (found (c .before .before .before .before .before .before)) _ (c .before .before .before .before .before .before .before .before .before .loop .r) (c .before .before .before .before .body-slot .ensures) (c .before .before .before .if1 .left) (c .before .if2 .left) (c .if3 .taken) ∙ c .before .before .before .before .before .before .before .before .before .loop .inv .1,
+  omega (arith, found (c .before .before .before .before .before .before), behind (c .before .before .before .before .before .before)),
+  body-kept (found (c .before .before .before .before .before .before)) (behind (c .before .before .before .before .before .before)) _ (c .before .before .before .before .before .before .before .before .before .loop .r) (c .before .before .before .before .body-slot .ensures) (c .before .before .before .if1 .left) (c .before .if2 .left) (c .if3 .taken) ∙ c .before .before .before .before .before .before .before .before .before .loop .inv .1,
 )
 
 pass-inside-requires : tie.Need-pass-inside-requires Inv-loop μ-loop
 pass-inside-requires c κs = search needs
 
 loop-less-4 : tie.Need-loop-less-4 Inv-loop μ-loop
-loop-less-4 c = omega (arith, found (c .before .before .before .before .before .before .before .before))
+loop-less-4 c = omega (arith, found (c .before .before .before .before .before .before .before .before), behind (c .before .before .before .before .before .before .before .before))
 
 loop-again-4 : tie.Need-loop-again-4 Inv-loop μ-loop
 loop-again-4 c = (
-  omega (arith, found (c .before .before .before .before .before .before .before .before)),
-  body-later (found (c .before .before .before .before .before .before .before .before)) _ (c .before .before .before .before .before .before .before .before .before .before .before .loop .r) (c .before .before .before .before .before .before .body-slot .ensures) (c .before .before .before .before .before .if1 .left) (c .before .before .before .if2 .left) (c .before .before .if3 .left) (c .before .pass-inside .ensures)
+  omega (arith, found (c .before .before .before .before .before .before .before .before), behind (c .before .before .before .before .before .before .before .before)),
+  body-later (found (c .before .before .before .before .before .before .before .before)) (behind (c .before .before .before .before .before .before .before .before)) _ (c .before .before .before .before .before .before .before .before .before .before .before .loop .r) (c .before .before .before .before .before .before .body-slot .ensures) (c .before .before .before .before .before .if1 .left) (c .before .before .before .if2 .left) (c .before .before .if3 .left) (c .before .pass-inside .ensures)
       ∙ c .before .before .before .before .before .before .before .before .before .before .before .loop .inv .1,
 )
 
@@ -127,13 +128,13 @@ cut-requires : tie.Need-cut-requires Inv-loop μ-loop
 cut-requires c κs = search needs
 
 returns : tie.Need-returns Inv-loop μ-loop
-returns c = c .cut .ensures ∙ sym (body-cut _ _ _ (at-cut _ _ (c .before .before .before .attribute-at .ensures) (c .before .enum-told .given .1))) ∙ c .before .before .before .before .loop .inv .1
+returns c = c .cut .ensures ∙ sym (body-cut _ _ _ (at-cut _ _ (c .before .before .before .attribute-at .ensures .0) (c .before .enum-told .given .1))) ∙ c .before .before .before .before .loop .inv .1
 
 enum-told-2 : tie.Need-enum-told-2 Inv-loop μ-loop
 enum-told-2 c = search needs
 
 returns-2 : tie.Need-returns-2 Inv-loop μ-loop
-returns-2 c = sym (body-end _ _ _ (at-stop _ _ (c .before .before .attribute-at .ensures) (c .enum-told2 .given .1))) ∙ c .before .before .before .loop .inv .1
+returns-2 c = sym (body-end _ _ _ (at-stop _ _ (c .before .before .attribute-at .ensures .0) (c .enum-told2 .given .1))) ∙ c .before .before .before .loop .inv .1
 
 pub pass-body-spec : {M : Type 1} → statement M
 pass-body-spec =
@@ -144,8 +145,7 @@ pass-body-spec =
     no-body-requires
     loop-holds
     attribute-at-requires
-    enum-known-kind
-    add-at
+    enum-known-found
     cast-r
     body-slot-requires
     loop-less
