@@ -79,23 +79,6 @@ step-says {s} {at} {r} e = (e, subst (λ (x : Step). Says s at (x .attribute) (x
 pub step-made : {s : List ℕ} {at : ℕ} {r : Step} → r .attribute ≡ nextAt s at → r .at ≡ placeAfter at (nextAt s at) → (r ≡ stepAt s at) × Says s at (r .attribute) (r .at)
 step-made {s} {at} {r} e g = step-says (λ i. record { attribute = e i; at = g i })
 
--- what a `match` on the result r of `next_at` says
-module _ (s : List ℕ) (at : ℕ) {r : Step} (e : r ≡ stepAt s at) where
-  is : (q : Next) → r .attribute ≡ q → At s at q
-  is q g = subst (At s at) (sym (ap (λ (x : Step). x .attribute) e) ∙ g) (nextAt-at s at)
-
-  pub at-attr : {k start n : ℕ} → r .attribute ≡ Attr k start n → Found s at k start n
-  at-attr {k} {start} {n} g = is (Attr k start n) g
-
-  pub at-behind : {k start n : ℕ} → r .attribute ≡ Attr k start n → r .at ≡ start + n
-  at-behind g = ap (λ (x : Step). x .at) e ∙ ap (placeAfter at) (sym (ap (λ (x : Step). x .attribute) e) ∙ g)
-
-  pub at-cut : r .attribute ≡ Cut → items (drop at s) ≡ cut ∷ []
-  at-cut g = is Cut g
-
-  pub at-stop : r .attribute ≡ End → items (drop at s) ≡ []
-  at-stop g = is End g
-
 pub items-past : (s : List ℕ) (at : ℕ) → length s ≤ at → items (drop at s) ≡ []
 items-past s at h = at-end s at h
 

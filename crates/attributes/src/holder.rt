@@ -1,8 +1,7 @@
 // The attribute reader: a struct of a holder's octets and a place. Its functions take it apart and leave the work to `next_at`.
 ghost use mathlib.Core.Path.{_≡_};
-ghost use Rattle.attributes.specs.Next.{stepAt, steppedFrom, Says};
+ghost use Rattle.attributes.specs.Next.{steppedFrom, Says};
 use crate::attribute::Next;
-use crate::attribute::Step;
 use crate::attribute::next_at;
 
 pub struct Attributes<'a> {
@@ -33,16 +32,5 @@ pub fn next<'a>(r: Attributes<'a>) -> Stepped<'a>
     Stepped {
         attribute: n.attribute,
         rest,
-    }
-}
-
-// What stands at a place, and the place that the reader goes on to. The parameters are plain, so the passes that call it need no walk by hand.
-pub fn attribute_at<'a>(s: &'a [u8], at: usize) -> Step
-    ensures { λ r. ⌜ (r ≡ stepAt (now (s .entry)) at) × Says (now (s .entry)) at (r .attribute) (r .at) ⌝ }
-{
-    let n = next(opened(s, at));
-    Step {
-        attribute: n.attribute,
-        at: n.rest.at,
     }
 }

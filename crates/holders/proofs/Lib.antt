@@ -1,5 +1,6 @@
 pub mod BoolLaws
-pub mod TurnLaws
 pub mod SlotLaws
 pub mod HitLaws
+pub mod TurnLaws
+pub mod PassLaws
 pub mod BodyLaws

@@ -1,97 +1,115 @@
--- A turn of each pass, as the code takes it: what is left of the fold after it.
+-- A turn of each pass: what the code makes of a case is what the definition leaves, and what is left of the fold after it.
 use Prim.Native.Nat.{ℕ, _+_, _-_, _≤_, _<_}
-use mathlib.Core.Path.{_≡_, refl, ap, _∙_}
+use mathlib.Core.Path.{_≡_, refl, sym, ap, _∙_, subst}
 use mathlib.Core.List.{List, [], _∷_}
-use mathlib.Core.Bool.{Bool, false, _&&_}
-use lib.ListN.{length, getD, take, drop, set}
+use mathlib.Core.Bool.{Bool, true, false, _&&_}
+use lib.ListN.{length, getD, take, drop, set, length-drop}
+use lib.Seq.{length-take-le}
 use native.Mathlib.Omega.{arith}
 use native.Mathlib.Nat.{add-sub-cancel-left}
 use borrow.Author.Tests.{le-leb, lt-leb, le-ltb, lt-ltb}
 use Rattle.wire.specs.Attributes.{Item, attr, cut, items}
 use Rattle.wire.specs.Ranges.{fits}
-use Rattle.holders.specs.declared.pass.Slot.{Slot}
+use Rattle.attributes.specs.declared.attribute.Next.{Next}
+use Rattle.attributes.specs.declared.attribute.Next.the-variants.{Attr, Cut, End}
+use Rattle.attributes.specs.Next.{placeAfter}
+use Rattle.attributes.proofs.ItemLaws.{Found, At, found-length}
 use Rattle.holders.specs.declared.pass.Inside.{Inside}
 use Rattle.holders.specs.declared.pass.Body.{Body}
-use Rattle.holders.specs.Slots.{bodySlot, insideSlot, noSlot, notedOf}
-use Rattle.holders.specs.Pass.{insideRecord, insideTurn, insideFrom, insidePass, bodyRecord, bodyTurn, bodyFrom}
-use Rattle.attributes.proofs.ItemLaws.{Found, found-length}
+use Rattle.holders.specs.Slots.{bodySlot, insideSlot}
+use Rattle.holders.specs.Pass.{notedAt, insideRecord, insideTurn, insideFrom, insidePass, bodyRecord, bodyTurn, bodyFrom}
+use Rattle.holders.specs.Turn.{Within, overAfter, insideAfter, bodyAfter}
+use Rattle.holders.proofs.HitLaws.{true-not-false}
+
+-- ---- where an attribute stands
+pub within-attr : {m k start n : ℕ} {found : Next} → found ≡ Attr k start n → Within m found → start + n ≤ m
+within-attr {m} e w = subst (Within m) e w
+
+pub at-within : (s : List ℕ) (at : ℕ) (found : Next) → At s at found → Within (length s) found
+at-within s at (Attr k start n) f = f .ends
+at-within s at Cut f = tt
+at-within s at End f = tt
+
+-- where the pass goes on there is an attribute, and the next place is behind it
+pub behind : (s : List ℕ) (at : ℕ) (found : Next) → At s at found → overAfter found false ≡ false → (at < placeAfter at found) × (placeAfter at found ≤ length s)
+behind s at (Attr k start n) f e = (omega (arith, f), f .ends)
+behind s at Cut f e = absurd (true-not-false e)
+behind s at End f e = absurd (true-not-false e)
+
+pub over-attr : {k start n : ℕ} {found : Next} (b : Bool) → found ≡ Attr k start n → b ≡ overAfter found b
+over-attr b e = rw e refl
+
+value-length : (s : List ℕ) (start n : ℕ) → start + n ≤ length s → length (take n (drop start s)) ≡ n
+value-length s start n h = length-take-le n (drop start s) (simp length-drop (omega arith))
 
 -- ---- the inside of a compound
+module _ {found : Next} {k start n : ℕ} (e : found ≡ Attr k start n) (h : ℕ) (s : List ℕ) (r : Inside) where
+  pub inside-other : {i : ℕ} → i ≡ insideSlot h k → 4 ≤ i → r ≡ insideAfter h s found r
+  unfolding insideTurn
+  inside-other {i} g big = rw (e, ← g, le-leb 4 i big) refl
+
+  pub inside-entered : {i : ℕ} {b : Bool} → i ≡ insideSlot h k → i < 4 → start + n ≤ length s → b ≡ fits h k (take (start + n - start) (drop start s))
+      → insideRecord (r .sound && b) (notedAt (r .slots) i start n) ≡ insideAfter h s found r
+  unfolding insideTurn
+  inside-entered {i} g small ends b = rw (b, e, ← g, lt-leb 4 i small, add-sub-cancel-left, value-length s start n ends) refl
+
 inside-step : (h at a m k : ℕ) (r : Inside) (v : List ℕ) (l : List Item) → a ≡ at + 3 → length v ≡ m
     → insideFrom h at r (attr k v ∷ l) ≡ insideFrom h (a + m) (insideTurn h a k v r) l
 unfolding insideFrom
 inside-step h at a m k r v l e g = rw (e, ← g) refl
 
-module _ {s : List ℕ} {at k start n next : ℕ} (f : Found s at k start n) (p : next ≡ start + n) (h : ℕ) (r : Inside) where
-  inside-found : insideFrom h at r (items (drop at s))
-      ≡ insideFrom h (start + n) (insideTurn h start k (take n (drop start s)) r) (items (drop (start + n) s))
-  inside-found = ap (insideFrom h at r) (f .here) ∙ inside-step h at start n k r _ _ (f .starts) (found-length f)
+pub inside-goes : (h at : ℕ) (s : List ℕ) (r : Inside) (found : Next) → At s at found → overAfter found false ≡ false
+    → insideFrom h (placeAfter at found) (insideAfter h s found r) (items (drop (placeAfter at found) s)) ≡ insideFrom h at r (items (drop at s))
+inside-goes h at s r (Attr k start n) f e = sym (ap (insideFrom h at r) (f .here) ∙ inside-step h at start n k r _ _ (f .starts) (found-length f))
+inside-goes h at s r Cut f e = absurd (true-not-false e)
+inside-goes h at s r End f e = absurd (true-not-false e)
 
-  pub inside-other : {i : ℕ} → i ≡ insideSlot h k → 4 ≤ i
-      → insideFrom h next r (items (drop next s)) ≡ insideFrom h at r (items (drop at s))
-  unfolding insideTurn
-  inside-other {i} e big = rw (p, inside-found, ← e, le-leb 4 i big) refl
-
-  pub inside-noted : {i : ℕ} {b : Bool} {x : Slot} → i ≡ insideSlot h k → i < 4 → b ≡ fits h k (take (next - start) (drop start s))
-      → x ≡ notedOf (getD (r .slots) i noSlot) start n
-      → insideFrom h next (insideRecord (r .sound && b) (set (r .slots) i x)) (items (drop next s))
-      ≡ insideFrom h at r (items (drop at s))
-  unfolding insideTurn
-  inside-noted {i} e small b x = rw (b, x, p, inside-found, ← e, lt-leb 4 i small, add-sub-cancel-left, found-length f) refl
-
-pub inside-cut : {l : List Item} (h at : ℕ) (r : Inside) → l ≡ cut ∷ [] → insideFrom h at r l ≡ insideRecord false (r .slots)
+pub inside-stops : (h at : ℕ) (s : List ℕ) (r : Inside) (found : Next) → At s at found → overAfter found false ≡ true
+    → insideAfter h s found r ≡ insideFrom h at r (items (drop at s))
 unfolding insideFrom
-inside-cut h at r e = rw e refl
-
-pub inside-end : {l : List Item} (h at : ℕ) (r : Inside) → l ≡ [] → insideFrom h at r l ≡ r
-unfolding insideFrom
-inside-end h at r e = rw e refl
+inside-stops h at s r (Attr k start n) f e = absurd (true-not-false (sym e))
+inside-stops h at s r Cut f e = rw f refl
+inside-stops h at s r End f e = rw f refl
 
 -- ---- a body
+module _ {found : Next} {k start n : ℕ} (e : found ≡ Attr k start n) (h : ℕ) (s : List ℕ) (r : Body) where
+  pub body-other : {i : ℕ} → i ≡ bodySlot h k → 7 ≤ i → bodyRecord (r .sound) k (r .slots) (r .count) (r .compounds) ≡ bodyAfter h s found r
+  unfolding bodyTurn
+  body-other {i} g big = rw (e, ← g, le-leb 7 i big) refl
+
+  pub body-entered : {i : ℕ} {b : Bool} → i ≡ bodySlot h k → i < 6 → start + n ≤ length s → b ≡ fits h k (take (start + n - start) (drop start s))
+      → bodyRecord (r .sound && b) k (notedAt (r .slots) i start n) (r .count) (r .compounds) ≡ bodyAfter h s found r
+  unfolding bodyTurn
+  body-entered {i} g small ends b =
+      let below : i < 7 = omega arith in
+      rw (b, e, ← g, lt-leb 7 i below, lt-ltb i 6 small, add-sub-cancel-left, value-length s start n ends) refl
+
+  pub body-placed : {i : ℕ} → i ≡ bodySlot h k → i < 7 → 6 ≤ i → start + n ≤ length s → r .count < 4
+      → bodyRecord (r .sound) k (r .slots) (r .count + 1) (set (r .compounds) (r .count) (record { start = start; len = n })) ≡ bodyAfter h s found r
+  unfolding bodyTurn
+  body-placed {i} g small big ends few =
+      rw (e, ← g, lt-leb 7 i small, le-ltb i 6 big, lt-ltb (r .count) 4 few, value-length s start n ends) refl
+
+  pub body-later : {i : ℕ} {q : Inside} → i ≡ bodySlot h k → i < 7 → 6 ≤ i → 4 ≤ r .count → q ≡ insidePass k (take (start + n - start) (drop start s))
+      → bodyRecord (r .sound && q .sound) k (r .slots) 5 (r .compounds) ≡ bodyAfter h s found r
+  unfolding bodyTurn
+  body-later {i} g small big many q =
+      rw (q, e, ← g, lt-leb 7 i small, le-ltb i 6 big, le-ltb (r .count) 4 many, add-sub-cancel-left) refl
+
 body-step : (h at a m k : ℕ) (r : Body) (v : List ℕ) (l : List Item) → a ≡ at + 3 → length v ≡ m
     → bodyFrom h at r (attr k v ∷ l) ≡ bodyFrom h (a + m) (bodyTurn h a k v r) l
 unfolding bodyFrom
 body-step h at a m k r v l e g = rw (e, ← g) refl
 
-module _ {s : List ℕ} {at k start n next : ℕ} (f : Found s at k start n) (p : next ≡ start + n) (h : ℕ) (r : Body) where
-  body-found : bodyFrom h at r (items (drop at s))
-      ≡ bodyFrom h (start + n) (bodyTurn h start k (take n (drop start s)) r) (items (drop (start + n) s))
-  body-found = ap (bodyFrom h at r) (f .here) ∙ body-step h at start n k r _ _ (f .starts) (found-length f)
+pub body-goes : (h at : ℕ) (s : List ℕ) (r : Body) (found : Next) → At s at found → overAfter found false ≡ false
+    → bodyFrom h (placeAfter at found) (bodyAfter h s found r) (items (drop (placeAfter at found) s)) ≡ bodyFrom h at r (items (drop at s))
+body-goes h at s r (Attr k start n) f e = sym (ap (bodyFrom h at r) (f .here) ∙ body-step h at start n k r _ _ (f .starts) (found-length f))
+body-goes h at s r Cut f e = absurd (true-not-false e)
+body-goes h at s r End f e = absurd (true-not-false e)
 
-  pub body-other : {i : ℕ} → i ≡ bodySlot h k → 7 ≤ i
-      → bodyFrom h next (bodyRecord (r .sound) k (r .slots) (r .count) (r .compounds)) (items (drop next s))
-      ≡ bodyFrom h at r (items (drop at s))
-  unfolding bodyTurn
-  body-other {i} e big = rw (p, body-found, ← e, le-leb 7 i big) refl
-
-  pub body-noted : {i : ℕ} {b : Bool} {x : Slot} → i ≡ bodySlot h k → i < 6 → b ≡ fits h k (take (next - start) (drop start s))
-      → x ≡ notedOf (getD (r .slots) i noSlot) start n
-      → bodyFrom h next (bodyRecord (r .sound && b) k (set (r .slots) i x) (r .count) (r .compounds)) (items (drop next s))
-      ≡ bodyFrom h at r (items (drop at s))
-  unfolding bodyTurn
-  body-noted {i} e small b x =
-      let below : i < 7 = omega arith in
-      rw (b, x, p, body-found, ← e, lt-leb 7 i below, lt-ltb i 6 small, add-sub-cancel-left, found-length f) refl
-
-  pub body-kept : {i : ℕ} → i ≡ bodySlot h k → i < 7 → 6 ≤ i → r .count < 4
-      → bodyFrom h next (bodyRecord (r .sound) k (r .slots) (r .count + 1) (set (r .compounds) (r .count) (record { start = start; len = n }))) (items (drop next s))
-      ≡ bodyFrom h at r (items (drop at s))
-  unfolding bodyTurn
-  body-kept {i} e small big few =
-      rw (p, body-found, ← e, lt-leb 7 i small, le-ltb i 6 big, lt-ltb (r .count) 4 few, found-length f) refl
-
-  pub body-later : {i : ℕ} {q : Inside} → i ≡ bodySlot h k → i < 7 → 6 ≤ i → 4 ≤ r .count → q ≡ insidePass k (take (next - start) (drop start s))
-      → bodyFrom h next (bodyRecord (r .sound && q .sound) k (r .slots) 5 (r .compounds)) (items (drop next s))
-      ≡ bodyFrom h at r (items (drop at s))
-  unfolding bodyTurn
-  body-later {i} e small big many q =
-      rw (q, p, body-found, ← e, lt-leb 7 i small, le-ltb i 6 big, le-ltb (r .count) 4 many, add-sub-cancel-left) refl
-
-pub body-cut : {l : List Item} (h at : ℕ) (r : Body) → l ≡ cut ∷ []
-    → bodyFrom h at r l ≡ bodyRecord false 256 (r .slots) (r .count) (r .compounds)
+pub body-stops : (h at : ℕ) (s : List ℕ) (r : Body) (found : Next) → At s at found → overAfter found false ≡ true
+    → bodyAfter h s found r ≡ bodyFrom h at r (items (drop at s))
 unfolding bodyFrom
-body-cut h at r e = rw e refl
-
-pub body-end : {l : List Item} (h at : ℕ) (r : Body) → l ≡ [] → bodyFrom h at r l ≡ r
-unfolding bodyFrom
-body-end h at r e = rw e refl
+body-stops h at s r (Attr k start n) f e = absurd (true-not-false (sym e))
+body-stops h at s r Cut f e = rw f refl
+body-stops h at s r End f e = rw f refl

@@ -1,14 +1,20 @@
-// One pass over each holder: all that questions 8 and 9 and the fields need of it, as numbers by value.
+// One pass over each holder, with the attribute reader: all that questions 8 and 9 and the fields need of it, as numbers by value. A pass is thin: the
+// reader steps, and a turn on values enters what it has found.
 ghost use mathlib.Core.Path.{_≡_};
 ghost use Prim.Native.Nat.{_≤_, _<_};
 ghost use lib.ListN.{length};
-ghost use Rattle.holders.specs.Slots.{notedOf};
-ghost use Rattle.holders.specs.Pass.{noInside, insidePass, noBody, cutBody, bodyPass};
-use crate::range::body_slot;
-use crate::range::in_range;
-use crate::range::inside_slot;
-use attributes::attribute::Next;
-use attributes::holder::attribute_at;
+ghost use Rattle.holders.specs.Slots.{noSlot, notedOf};
+ghost use Rattle.holders.specs.Pass.{insidePass, bodyPass};
+use crate::body::BodySoFar;
+use crate::body::body_end;
+use crate::body::body_start;
+use crate::body::body_turn;
+use crate::inside::InsideSoFar;
+use crate::inside::inside_end;
+use crate::inside::inside_start;
+use crate::inside::inside_turn;
+use attributes::holder::next;
+use attributes::holder::opened;
 use wire::fields::Place;
 
 // How often a type stands in its holder, up to 2, and where its first value stands.
@@ -34,7 +40,17 @@ pub struct Body {
     pub sound: bool,
 }
 
-fn noted(t: Slot, start: usize, len: usize) -> Slot
+pub fn no_slot() -> Slot
+    ensures { λ r. ⌜ r ≡ noSlot ⌝ }
+{
+    Slot {
+        n: 0,
+        start: 0,
+        len: 0,
+    }
+}
+
+pub fn noted(t: Slot, start: usize, len: usize) -> Slot
     ensures { λ r. ⌜ r ≡ notedOf t start len ⌝ }
 {
     if t.n == 0 {
@@ -47,116 +63,35 @@ fn noted(t: Slot, start: usize, len: usize) -> Slot
     }
 }
 
-fn no_inside() -> Inside
-    ensures { λ r. ⌜ r ≡ noInside ⌝ }
-{
-    let none = Slot {
-        n: 0,
-        start: 0,
-        len: 0,
-    };
-    Inside {
-        sound: true,
-        slots: [none; 4],
-    }
-}
-
 // The inside of a compound of type h.
-pub fn pass_inside(s: &[u8], h: u8) -> Inside
+pub fn pass_inside<'a>(s: &'a [u8], h: u8) -> Inside
     ensures { λ r. ⌜ r ≡ insidePass h (now (s .entry)) ⌝ }
 {
-    let mut at: usize = 0;
-    let mut r = no_inside();
+    let mut a = opened(s, 0);
+    let mut r = inside_start();
     loop {
-        let n = attribute_at(s, at);
-        let found = n.attribute;
-        match found {
-            Next::Attr { kind, start, len } => {
-                at = n.at;
-                let i = inside_slot(h, kind);
-                if 4 <= i {
-                    continue;
-                }
-                r.sound = r.sound & in_range(h, kind, &s[start..at]);
-                let t = r.slots[i];
-                let u = noted(t, start, len);
-                r.slots[i] = u;
-            }
-            Next::Cut => {
-                r.sound = false;
-                return r;
-            }
-            Next::End => return r,
+        let n = next(a);
+        r = inside_turn(s, h, r, n.attribute);
+        if r.over {
+            return inside_end(r);
         }
+        a = n.rest;
     }
 }
 
-fn no_body() -> Body
-    ensures { λ r. ⌜ r ≡ noBody ⌝ }
-{
-    let none = Slot {
-        n: 0,
-        start: 0,
-        len: 0,
-    };
-    let nowhere = Place { start: 0, len: 0 };
-    Body {
-        sound: true,
-        last: 256,
-        slots: [none; 6],
-        count: 0,
-        compounds: [nowhere; 4],
-    }
-}
-
-// The body of message m of code h: its attributes begin at 4. The inside of a fifth or further compound is passed here, for question 8.
-pub fn pass_body(m: &[u8], h: u8) -> Body
+// The body of message m of code h: its attributes begin at 4.
+pub fn pass_body<'a>(m: &'a [u8], h: u8) -> Body
     requires { ⌜ (h < 13) × (4 ≤ length (now m)) ⌝ }
     ensures { λ r. ⌜ r ≡ bodyPass h (now (m .entry)) ⌝ }
 {
-    let mut at: usize = 4;
-    let mut r = no_body();
+    let mut a = opened(m, 4);
+    let mut r = body_start();
     loop {
-        let n = attribute_at(m, at);
-        let found = n.attribute;
-        match found {
-            Next::Attr { kind, start, len } => {
-                at = n.at;
-                r.last = kind as usize;
-                let i = body_slot(h, kind);
-                if 7 <= i {
-                    continue;
-                }
-                let v = &m[start..at];
-                if i < 6 {
-                    r.sound = r.sound & in_range(h, kind, v);
-                    let t = r.slots[i];
-                    let u = noted(t, start, len);
-                    r.slots[i] = u;
-                    continue;
-                }
-                let c = r.count;
-                if c < 4 {
-                    let p = Place { start, len };
-                    r.compounds[c] = p;
-                    r.count = c + 1;
-                    continue;
-                }
-                let later = pass_inside(v, kind);
-                r.sound = r.sound & later.sound;
-                r.count = 5;
-            }
-            Next::Cut => return cut(r),
-            Next::End => return r,
+        let n = next(a);
+        r = body_turn(m, h, r, n.attribute);
+        if r.over {
+            return body_end(r);
         }
+        a = n.rest;
     }
-}
-
-fn cut(r: Body) -> Body
-    ensures { λ q. ⌜ q ≡ cutBody r ⌝ }
-{
-    let mut q = r;
-    q.sound = false;
-    q.last = 256;
-    q
 }

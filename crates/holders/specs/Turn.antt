@@ -1,0 +1,57 @@
+-- What a turn of a pass leaves, of what the attribute reader has found.
+use Prim.Native.Nat.{ℕ, _+_, _≤_}
+use mathlib.Core.List.{List, [], _∷_}
+use mathlib.Core.Bool.{Bool, true}
+use lib.ListN.{take, drop, set}
+use lib.Dec.{eqb}
+use Rattle.wire.specs.declared.fields.Place.{Place}
+use Rattle.attributes.specs.declared.attribute.Next.{Next}
+use Rattle.attributes.specs.declared.attribute.Next.the-variants.{Attr, Cut, End}
+use Rattle.attributes.specs.Next.{nextNumber}
+use Rattle.holders.specs.declared.pass.Inside.{Inside}
+use Rattle.holders.specs.declared.pass.Body.{Body}
+use Rattle.holders.specs.declared.inside.InsideSoFar.{InsideSoFar}
+use Rattle.holders.specs.declared.body.BodySoFar.{BodySoFar}
+use Rattle.holders.specs.Pass.{insideRecord, insideTurn, bodyRecord, bodyTurn}
+
+-- An attribute ends inside its holder of m octets
+abbrev pub Within : ℕ → Next → Type 0
+Within m (Attr k start n) = start + n ≤ m
+Within m Cut = Unit
+Within m End = Unit
+
+-- Whether question 8 has a yes for what is found: its number is 0
+abbrev pub isAccepted : Next → Bool
+isAccepted found = eqb (nextNumber found) 0
+
+-- The pass is over at a cut and at the end
+abbrev pub overAfter : Next → Bool → Bool
+overAfter (Attr k start n) over = over
+overAfter Cut over = true
+overAfter End over = true
+
+-- ---- the inside s of a compound of type h
+abbrev pub insideOf : InsideSoFar → Inside
+insideOf r = insideRecord (r .sound) (r .first ∷ r .second ∷ r .third ∷ r .fourth ∷ [])
+
+abbrev pub insideAfter : ℕ → List ℕ → Next → Inside → Inside
+insideAfter h s (Attr k start n) r = insideTurn h start k (take n (drop start s)) r
+insideAfter h s Cut r = insideRecord (isAccepted Cut) (r .slots)
+insideAfter h s End r = r
+
+-- ---- message m of code h
+abbrev pub bodyOf : BodySoFar → Body
+bodyOf r =
+    bodyRecord (r .sound) (r .last)
+    (r .number ∷ r .said ∷ r .life ∷ r .error ∷ r .key ∷ r .digest ∷ [])
+    (r .count)
+    (r .first ∷ r .second ∷ r .third ∷ r .fourth ∷ [])
+
+abbrev pub keptAt : ℕ → ℕ → Body → Body
+keptAt start n r =
+    bodyRecord (r .sound) (r .last) (r .slots) (r .count + 1) (set (r .compounds) (r .count) (record { start = start; len = n }))
+
+abbrev pub bodyAfter : ℕ → List ℕ → Next → Body → Body
+bodyAfter h m (Attr k start n) r = bodyTurn h start k (take n (drop start m)) r
+bodyAfter h m Cut r = bodyRecord (isAccepted Cut) 256 (r .slots) (r .count) (r .compounds)
+bodyAfter h m End r = r

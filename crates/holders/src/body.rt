@@ -1,0 +1,190 @@
+// One turn of the pass over a message's body: what the attribute reader has found, entered into what the pass has so far. That has a field for each
+// slot and place, and no array, so handing it through a turn by value copies nothing.
+ghost use mathlib.Core.Path.{_≡_};
+ghost use mathlib.Core.Bool.{false, _&&_};
+ghost use Prim.Native.Nat.{_<_};
+ghost use lib.ListN.{length};
+ghost use Rattle.holders.specs.Pass.{notedAt, bodyRecord, noBody};
+ghost use Rattle.holders.specs.Turn.{Within, overAfter, bodyOf, bodyAfter, keptAt};
+use crate::pass::Body;
+use crate::pass::Slot;
+use crate::pass::no_slot;
+use crate::pass::noted;
+use crate::pass::pass_inside;
+use crate::range::body_slot;
+use crate::range::in_range;
+use attributes::attribute::Next;
+use wire::fields::Place;
+
+// `Body` while the body is passed, and whether it is at its end: a slot for each plain type that is needed somewhere, and where the first four
+// compounds stand.
+pub struct BodySoFar {
+    pub number: Slot,
+    pub said: Slot,
+    pub life: Slot,
+    pub error: Slot,
+    pub key: Slot,
+    pub digest: Slot,
+    pub first: Place,
+    pub second: Place,
+    pub third: Place,
+    pub fourth: Place,
+    pub count: usize,
+    pub last: usize,
+    pub sound: bool,
+    pub over: bool,
+}
+
+pub fn body_start() -> BodySoFar
+    ensures { λ r. ⌜ (bodyOf r ≡ noBody) × (r .over ≡ false) ⌝ }
+{
+    let none = no_slot();
+    let nowhere = Place { start: 0, len: 0 };
+    BodySoFar {
+        number: none,
+        said: none,
+        life: none,
+        error: none,
+        key: none,
+        digest: none,
+        first: nowhere,
+        second: nowhere,
+        third: nowhere,
+        fourth: nowhere,
+        count: 0,
+        last: 256,
+        sound: true,
+        over: false,
+    }
+}
+
+pub fn body_end(r: BodySoFar) -> Body
+    ensures { λ q. ⌜ q ≡ bodyOf r ⌝ }
+{
+    let number = r.number;
+    let said = r.said;
+    let life = r.life;
+    let error = r.error;
+    let key = r.key;
+    let digest = r.digest;
+    let first = r.first;
+    let second = r.second;
+    let third = r.third;
+    let fourth = r.fourth;
+    Body {
+        slots: [number, said, life, error, key, digest],
+        compounds: [first, second, third, fourth],
+        count: r.count,
+        last: r.last,
+        sound: r.sound,
+    }
+}
+
+// A value of the type of slot i is noted; fits says whether it has its length and range.
+fn body_noted(r: BodySoFar, i: usize, start: usize, len: usize, fits: bool) -> BodySoFar
+    requires { ⌜ i < 6 ⌝ }
+    ensures { λ q. ⌜ (bodyOf q ≡ bodyRecord (r .sound && fits) (r .last) (notedAt (bodyOf r .slots) i start len) (r .count) (bodyOf r .compounds)) × (q .over ≡ r .over) ⌝ }
+{
+    let mut q = r;
+    q.sound = r.sound & fits;
+    if i == 0 {
+        let t = r.number;
+        let u = noted(t, start, len);
+        q.number = u;
+        return q;
+    }
+    if i == 1 {
+        let t = r.said;
+        let u = noted(t, start, len);
+        q.said = u;
+        return q;
+    }
+    if i == 2 {
+        let t = r.life;
+        let u = noted(t, start, len);
+        q.life = u;
+        return q;
+    }
+    if i == 3 {
+        let t = r.error;
+        let u = noted(t, start, len);
+        q.error = u;
+        return q;
+    }
+    if i == 4 {
+        let t = r.key;
+        let u = noted(t, start, len);
+        q.key = u;
+        return q;
+    }
+    let t = r.digest;
+    let u = noted(t, start, len);
+    q.digest = u;
+    q
+}
+
+// One of the first four compounds.
+fn body_kept(r: BodySoFar, start: usize, len: usize) -> BodySoFar
+    requires { ⌜ r .count < 4 ⌝ }
+    ensures { λ q. ⌜ (bodyOf q ≡ keptAt start len (bodyOf r)) × (q .over ≡ r .over) ⌝ }
+{
+    let mut q = r;
+    let p = Place { start, len };
+    q.count = r.count + 1;
+    if r.count == 0 {
+        q.first = p;
+        return q;
+    }
+    if r.count == 1 {
+        q.second = p;
+        return q;
+    }
+    if r.count == 2 {
+        q.third = p;
+        return q;
+    }
+    q.fourth = p;
+    q
+}
+
+// A turn over message m of code h. The inside of a fifth or further compound is passed here, for question 8.
+pub fn body_turn(m: &[u8], h: u8, r: BodySoFar, found: Next) -> BodySoFar
+    requires { ⌜ (h < 13) × Within (length (now m)) found ⌝ }
+    ensures { λ q. ⌜ (bodyOf q ≡ bodyAfter h (now (m .entry)) found (bodyOf r)) × (q .over ≡ overAfter found (r .over)) ⌝ }
+{
+    match found {
+        Next::Attr { kind, start, len } => {
+            let mut q = r;
+            q.last = kind as usize;
+            let i = body_slot(h, kind);
+            if 7 <= i {
+                return q;
+            }
+            let end = start + len;
+            let v = &m[start..end];
+            if i < 6 {
+                let fits = in_range(h, kind, v);
+                return body_noted(q, i, start, len, fits);
+            }
+            if q.count < 4 {
+                return body_kept(q, start, len);
+            }
+            let later = pass_inside(v, kind);
+            q.sound = q.sound & later.sound;
+            q.count = 5;
+            q
+        }
+        Next::Cut => {
+            let mut q = r;
+            q.sound = false;
+            q.last = 256;
+            q.over = true;
+            q
+        }
+        Next::End => {
+            let mut q = r;
+            q.over = true;
+            q
+        }
+    }
+}
