@@ -7,7 +7,6 @@ use lib.Dec.{T}
 use lib.ListN.{length, drop}
 use native.Mathlib.Omega.{arith}
 use Rattle.wire.specs.Attributes.{items}
-use Rattle.attributes.specs.declared.attribute.Next.{Next}
 use Rattle.attributes.specs.Next.{nextAt, placeAfter}
 use Rattle.attributes.proofs.ItemLaws.{nextAt-at}
 use Rattle.holders.specs.declared.pass.Inside.{Inside}

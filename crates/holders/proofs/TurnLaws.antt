@@ -1,24 +1,24 @@
 -- A turn of each pass: what the code makes of a case is what the definition leaves, and what is left of the fold after it.
 use Prim.Native.Nat.{ℕ, _+_, _-_, _≤_, _<_}
 use mathlib.Core.Path.{_≡_, refl, sym, ap, _∙_, subst}
-use mathlib.Core.List.{List, [], _∷_}
+use mathlib.Core.List.{List, _∷_}
 use mathlib.Core.Bool.{Bool, true, false, _&&_}
-use lib.ListN.{length, getD, take, drop, set, length-drop}
+use lib.ListN.{length, take, drop, length-drop}
 use lib.Seq.{length-take-le}
 use native.Mathlib.Omega.{arith}
 use native.Mathlib.Nat.{add-sub-cancel-left}
 use borrow.Author.Tests.{le-leb, lt-leb, le-ltb, lt-ltb}
-use Rattle.wire.specs.Attributes.{Item, attr, cut, items}
+use Rattle.wire.specs.Attributes.{Item, attr, items}
 use Rattle.wire.specs.Ranges.{fits}
 use Rattle.attributes.specs.declared.attribute.Next.{Next}
 use Rattle.attributes.specs.declared.attribute.Next.the-variants.{Attr, Cut, End}
 use Rattle.attributes.specs.Next.{placeAfter}
-use Rattle.attributes.proofs.ItemLaws.{Found, At, found-length}
+use Rattle.attributes.proofs.ItemLaws.{At, found-length}
 use Rattle.holders.specs.declared.pass.Inside.{Inside}
 use Rattle.holders.specs.declared.pass.Body.{Body}
 use Rattle.holders.specs.Slots.{bodySlot, insideSlot}
 use Rattle.holders.specs.Pass.{notedAt, insideRecord, insideTurn, insideFrom, insidePass, bodyRecord, bodyTurn, bodyFrom}
-use Rattle.holders.specs.Turn.{Within, overAfter, insideAfter, bodyAfter}
+use Rattle.holders.specs.Turn.{Within, overAfter, insideAfter, bodyAfter, lastIs, keptAt}
 use Rattle.holders.proofs.HitLaws.{true-not-false}
 
 -- ---- where an attribute stands
@@ -71,30 +71,29 @@ inside-stops h at s r (Attr k start n) f e = absurd (true-not-false (sym e))
 inside-stops h at s r Cut f e = rw f refl
 inside-stops h at s r End f e = rw f refl
 
--- ---- a body
-module _ {found : Next} {k start n : ℕ} (e : found ≡ Attr k start n) (h : ℕ) (s : List ℕ) (r : Body) where
-  pub body-other : {i : ℕ} → i ≡ bodySlot h k → 7 ≤ i → bodyRecord (r .sound) k (r .slots) (r .count) (r .compounds) ≡ bodyAfter h s found r
+-- ---- a body: x is what it had, with the type of what is found as the last
+module _ {found : Next} {k start n : ℕ} (e : found ≡ Attr k start n) (h : ℕ) (s : List ℕ) (r : Body) {x : Body} (last : x ≡ lastIs k r) where
+  pub body-other : {i : ℕ} → i ≡ bodySlot h k → 7 ≤ i → x ≡ bodyAfter h s found r
   unfolding bodyTurn
-  body-other {i} g big = rw (e, ← g, le-leb 7 i big) refl
+  body-other {i} g big = rw (last, e, ← g, le-leb 7 i big) refl
 
   pub body-entered : {i : ℕ} {b : Bool} → i ≡ bodySlot h k → i < 6 → start + n ≤ length s → b ≡ fits h k (take (start + n - start) (drop start s))
-      → bodyRecord (r .sound && b) k (notedAt (r .slots) i start n) (r .count) (r .compounds) ≡ bodyAfter h s found r
+      → bodyRecord (x .sound && b) (x .last) (notedAt (x .slots) i start n) (x .count) (x .compounds) ≡ bodyAfter h s found r
   unfolding bodyTurn
   body-entered {i} g small ends b =
       let below : i < 7 = omega arith in
-      rw (b, e, ← g, lt-leb 7 i below, lt-ltb i 6 small, add-sub-cancel-left, value-length s start n ends) refl
+      rw (last, b, e, ← g, lt-leb 7 i below, lt-ltb i 6 small, add-sub-cancel-left, value-length s start n ends) refl
 
-  pub body-placed : {i : ℕ} → i ≡ bodySlot h k → i < 7 → 6 ≤ i → start + n ≤ length s → r .count < 4
-      → bodyRecord (r .sound) k (r .slots) (r .count + 1) (set (r .compounds) (r .count) (record { start = start; len = n })) ≡ bodyAfter h s found r
+  pub body-placed : {i : ℕ} → i ≡ bodySlot h k → i < 7 → 6 ≤ i → start + n ≤ length s → x .count < 4 → keptAt start n x ≡ bodyAfter h s found r
   unfolding bodyTurn
   body-placed {i} g small big ends few =
-      rw (e, ← g, lt-leb 7 i small, le-ltb i 6 big, lt-ltb (r .count) 4 few, value-length s start n ends) refl
+      rw (last, e, ← g, lt-leb 7 i small, le-ltb i 6 big, lt-ltb (r .count) 4 (subst (λ (y : Body). y .count < 4) last few), value-length s start n ends) refl
 
-  pub body-later : {i : ℕ} {q : Inside} → i ≡ bodySlot h k → i < 7 → 6 ≤ i → 4 ≤ r .count → q ≡ insidePass k (take (start + n - start) (drop start s))
-      → bodyRecord (r .sound && q .sound) k (r .slots) 5 (r .compounds) ≡ bodyAfter h s found r
+  pub body-later : {i : ℕ} {q : Inside} → i ≡ bodySlot h k → i < 7 → 6 ≤ i → 4 ≤ x .count → q ≡ insidePass k (take (start + n - start) (drop start s))
+      → bodyRecord (x .sound && q .sound) (x .last) (x .slots) 5 (x .compounds) ≡ bodyAfter h s found r
   unfolding bodyTurn
   body-later {i} g small big many q =
-      rw (q, e, ← g, lt-leb 7 i small, le-ltb i 6 big, le-ltb (r .count) 4 many, add-sub-cancel-left) refl
+      rw (last, q, e, ← g, lt-leb 7 i small, le-ltb i 6 big, le-ltb (r .count) 4 (subst (λ (y : Body). 4 ≤ y .count) last many), add-sub-cancel-left) refl
 
 body-step : (h at a m k : ℕ) (r : Body) (v : List ℕ) (l : List Item) → a ≡ at + 3 → length v ≡ m
     → bodyFrom h at r (attr k v ∷ l) ≡ bodyFrom h (a + m) (bodyTurn h a k v r) l

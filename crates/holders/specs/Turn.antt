@@ -4,7 +4,6 @@ use mathlib.Core.List.{List, [], _∷_}
 use mathlib.Core.Bool.{Bool, true}
 use lib.ListN.{take, drop, set}
 use lib.Dec.{eqb}
-use Rattle.wire.specs.declared.fields.Place.{Place}
 use Rattle.attributes.specs.declared.attribute.Next.{Next}
 use Rattle.attributes.specs.declared.attribute.Next.the-variants.{Attr, Cut, End}
 use Rattle.attributes.specs.Next.{nextNumber}
@@ -47,6 +46,10 @@ bodyOf r =
     (r .count)
     (r .first ∷ r .second ∷ r .third ∷ r .fourth ∷ [])
 
+abbrev pub lastIs : ℕ → Body → Body
+lastIs k r = bodyRecord (r .sound) k (r .slots) (r .count) (r .compounds)
+
+-- with one of the first four compounds
 abbrev pub keptAt : ℕ → ℕ → Body → Body
 keptAt start n r =
     bodyRecord (r .sound) (r .last) (r .slots) (r .count + 1) (set (r .compounds) (r .count) (record { start = start; len = n }))

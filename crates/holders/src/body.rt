@@ -1,11 +1,11 @@
 // One turn of the pass over a message's body: what the attribute reader has found, entered into what the pass has so far. That has a field for each
-// slot and place, and no array, so handing it through a turn by value copies nothing.
+// slot and place, and no array, so that a turn by value keeps them where they are.
 ghost use mathlib.Core.Path.{_≡_};
 ghost use mathlib.Core.Bool.{false, _&&_};
 ghost use Prim.Native.Nat.{_<_};
 ghost use lib.ListN.{length};
 ghost use Rattle.holders.specs.Pass.{notedAt, bodyRecord, noBody};
-ghost use Rattle.holders.specs.Turn.{Within, overAfter, bodyOf, bodyAfter, keptAt};
+ghost use Rattle.holders.specs.Turn.{Within, overAfter, bodyOf, bodyAfter, keptAt, lastIs};
 use crate::pass::Body;
 use crate::pass::Slot;
 use crate::pass::no_slot;
@@ -80,6 +80,38 @@ pub fn body_end(r: BodySoFar) -> Body
     }
 }
 
+// An attribute of type k was the last. All fields are set one by one: a copy of the whole carries its padding from turn to turn, which takes time.
+fn body_last(r: BodySoFar, k: u8) -> BodySoFar
+    ensures { λ q. ⌜ (bodyOf q ≡ lastIs k (bodyOf r)) × (q .over ≡ r .over) ⌝ }
+{
+    let number = r.number;
+    let said = r.said;
+    let life = r.life;
+    let error = r.error;
+    let key = r.key;
+    let digest = r.digest;
+    let first = r.first;
+    let second = r.second;
+    let third = r.third;
+    let fourth = r.fourth;
+    BodySoFar {
+        number,
+        said,
+        life,
+        error,
+        key,
+        digest,
+        first,
+        second,
+        third,
+        fourth,
+        count: r.count,
+        last: k as usize,
+        sound: r.sound,
+        over: r.over,
+    }
+}
+
 // A value of the type of slot i is noted; fits says whether it has its length and range.
 fn body_noted(r: BodySoFar, i: usize, start: usize, len: usize, fits: bool) -> BodySoFar
     requires { ⌜ i < 6 ⌝ }
@@ -88,37 +120,31 @@ fn body_noted(r: BodySoFar, i: usize, start: usize, len: usize, fits: bool) -> B
     let mut q = r;
     q.sound = r.sound & fits;
     if i == 0 {
-        let t = r.number;
-        let u = noted(t, start, len);
+        let u = noted(r.number, start, len);
         q.number = u;
         return q;
     }
     if i == 1 {
-        let t = r.said;
-        let u = noted(t, start, len);
+        let u = noted(r.said, start, len);
         q.said = u;
         return q;
     }
     if i == 2 {
-        let t = r.life;
-        let u = noted(t, start, len);
+        let u = noted(r.life, start, len);
         q.life = u;
         return q;
     }
     if i == 3 {
-        let t = r.error;
-        let u = noted(t, start, len);
+        let u = noted(r.error, start, len);
         q.error = u;
         return q;
     }
     if i == 4 {
-        let t = r.key;
-        let u = noted(t, start, len);
+        let u = noted(r.key, start, len);
         q.key = u;
         return q;
     }
-    let t = r.digest;
-    let u = noted(t, start, len);
+    let u = noted(r.digest, start, len);
     q.digest = u;
     q
 }
@@ -154,8 +180,7 @@ pub fn body_turn(m: &[u8], h: u8, r: BodySoFar, found: Next) -> BodySoFar
 {
     match found {
         Next::Attr { kind, start, len } => {
-            let mut q = r;
-            q.last = kind as usize;
+            let mut q = body_last(r, kind);
             let i = body_slot(h, kind);
             if 7 <= i {
                 return q;

@@ -1,5 +1,5 @@
 // One turn of the pass over a compound's inside: what the attribute reader has found, entered into what the pass has so far. That has a field for each
-// slot, and no array, so handing it through a turn by value copies nothing.
+// slot, and no array, so that a turn by value keeps them where they are.
 ghost use mathlib.Core.Path.{_≡_};
 ghost use mathlib.Core.Bool.{false, _&&_};
 ghost use Prim.Native.Nat.{_<_};
@@ -59,25 +59,21 @@ fn inside_noted(r: InsideSoFar, i: usize, start: usize, len: usize, fits: bool) 
     let mut q = r;
     q.sound = r.sound & fits;
     if i == 0 {
-        let t = r.first;
-        let u = noted(t, start, len);
+        let u = noted(r.first, start, len);
         q.first = u;
         return q;
     }
     if i == 1 {
-        let t = r.second;
-        let u = noted(t, start, len);
+        let u = noted(r.second, start, len);
         q.second = u;
         return q;
     }
     if i == 2 {
-        let t = r.third;
-        let u = noted(t, start, len);
+        let u = noted(r.third, start, len);
         q.third = u;
         return q;
     }
-    let t = r.fourth;
-    let u = noted(t, start, len);
+    let u = noted(r.fourth, start, len);
     q.fourth = u;
     q
 }

@@ -44,7 +44,7 @@ use denote.Triple.Table.{entered, cited}
 use denote.Triple.Walked.{says, Stays, stay-none, walkOf, goes-none, Walks, ends-at, walked, walk-meets}
 use denote.Exit.{yes}
 use denote.Triple.Clauses.{ensured, lasts}
-use Rattle.attributes.specs.Next.{stepAt, steppedFrom, Says}
+use Rattle.attributes.specs.Next.{stepAt, Says}
 use Rattle.attributes.specs.declared.holder.Attributes.{Attributes}
 use Rattle.attributes.specs.declared.holder.Stepped.{Stepped}
 use Rattle.attributes.specs.declared.attribute.Step.{Step}
