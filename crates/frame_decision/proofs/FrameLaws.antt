@@ -5,18 +5,20 @@ use mathlib.Core.List.{List}
 use Prim.Native.Nat.{ℕ, suc, _≤_}
 use native.Mathlib.Omega.{arith}
 use lib.Dec.{leb, eqb}
-use lib.ListN.{length, take}
-use borrow.Author.Tests.{leb-true, eqb-true}
+use lib.ListN.{length}
+use borrow.Author.Tests.{leb-true, eqb-true, eq-eqb}
 use Rattle.key_numbers.specs.declared.numbers.TekNumber.{TekNumber}
 use Rattle.keys.specs.declared.traffic.TrafficKey.{TrafficKey}
 use Rattle.keys.specs.declared.frame.Opening.{Opening}
+use Rattle.keys.specs.declared.frame.Opening.the-variants.{ByOlder, ByNewer, ByNeither}
 use Rattle.keys.specs.Octets.{overlay}
 use Rattle.key_numbers.specs.Numbers.{tekInRange}
 use Rattle.keys.specs.Suites.{widthKnown}
 use Rattle.keys.specs.Traffic.{pairFits}
-use Rattle.keys.specs.Frame.{openingOf}
+use Rattle.keys.specs.Frame.{openingOf, openingNumber, opens}
+use Rattle.keys.specs.Sealing.{openedBy}
 use Rattle.questions.proofs.TestLaws.{both}
-use Rattle.frame_decision.specs.Frame.{Given, frameFits, slicesFit, isHeld, chosenOf, frameNumber, decisionOf, Gives}
+use Rattle.frame_decision.specs.Frame.{Given, frameFits, slicesFit, frameNumber, decisionOf, Gives}
 
 module _ (clock : ℕ) (older newer : TrafficKey) (w : ℕ) (number : TekNumber) (keys : ℕ) (tek vector : List ℕ) where
   abbrev decided : Given
@@ -37,26 +39,28 @@ module _ (clock : ℕ) (older newer : TrafficKey) (w : ℕ) (number : TekNumber)
   unfolding frameNumber
   lengths-refused q₁ q₂ = refused 1 (simp (q₁, q₂))
 
-  module _ (by : Opening) (is : by ≡ openingOf clock number older newer) where
-    pub none-refused : frameFits clock older newer w number ≡ true → slicesFit keys (length tek) (length vector) ≡ true → isHeld by ≡ false
-        → Gives decided tek vector 13 tek vector
+  -- `by` is the decision and `no` its number, as the code has them
+  module _ (by : Opening) (is : by ≡ openingOf clock number older newer) (no : ℕ) (is-no : no ≡ openingNumber by)
+      (q₁ : frameFits clock older newer w number ≡ true) (q₂ : slicesFit keys (length tek) (length vector) ≡ true) where
+    pub none-refused : (no ≡ 0 → ⊥) → Gives decided tek vector no tek vector
     unfolding frameNumber
-    none-refused q₁ q₂ q₃ =
-        let q₃′ : isHeld (openingOf clock number older newer) ≡ false = ap isHeld (sym is) ∙ q₃ in
-        refused 12 (simp (q₁, q₂, q₃′))
+    none-refused some = subst (λ (n : ℕ). Gives decided tek vector n tek vector) (sym is-no) (go by is (λ e. some (is-no ∙ e)))
+      where
+        go : (o : Opening) → o ≡ openingOf clock number older newer → (openingNumber o ≡ 0 → ⊥) → Gives decided tek vector (openingNumber o) tek vector
+        go ByOlder e z = absurd (z refl)
+        go ByNewer e z = absurd (z refl)
+        go ByNeither e z = let q₃ : opens (openingOf clock number older newer) ≡ false = ap opens (sym e) in refused 12 (simp (q₁, q₂, q₃))
 
-    pub key-given : frameFits clock older newer w number ≡ true → slicesFit keys (length tek) (length vector) ≡ true → isHeld by ≡ true → (k : TrafficKey)
-        → k ≡ chosenOf by older newer → (tek′ vector′ : List ℕ) → tek′ ≡ overlay tek (take w (k .tek)) → vector′ ≡ overlay vector (take w (k .vector))
-        → Gives decided tek vector 0 tek′ vector′
+    pub key-given : no ≡ 0 → (tek′ vector′ : List ℕ) → tek′ ≡ overlay tek (openedBy by w older newer .tek)
+        → vector′ ≡ overlay vector (openedBy by w older newer .vector) → Gives decided tek vector 0 tek′ vector′
     unfolding decisionOf frameNumber
-    key-given q₁ q₂ q₃ k e tek′ vector′ t v =
-        let q₃′ : isHeld (openingOf clock number older newer) ≡ true = ap isHeld (sym is) ∙ q₃ in
-        let k′ : k ≡ chosenOf (openingOf clock number older newer) older newer = e ∙ ap (λ (o : Opening). chosenOf o older newer) is in
-        simp (q₁, q₂, q₃′)
+    key-given zero tek′ vector′ t v =
+        let q₃ : opens (openingOf clock number older newer) ≡ true = ap opens (sym is) ∙ eq-eqb (openingNumber by) 0 (sym is-no ∙ zero) in
+        simp (q₁, q₂, q₃)
         (record {
           answers = refl;
-          tek-holds = t ∙ ap (λ (x : TrafficKey). overlay tek (take w (x .tek))) k′;
-          vector-holds = v ∙ ap (λ (x : TrafficKey). overlay vector (take w (x .vector))) k′;
+          tek-holds = t ∙ ap (λ (o : Opening). overlay tek (openedBy o w older newer .tek)) is;
+          vector-holds = v ∙ ap (λ (o : Opening). overlay vector (openedBy o w older newer .vector)) is;
         })
 
 -- past question 1 the width is at most 16

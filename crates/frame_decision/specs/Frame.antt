@@ -4,17 +4,16 @@ use mathlib.Core.Path.{_≡_}
 use mathlib.Core.List.{List, [], _∷_}
 use Prim.Native.Nat.{ℕ, zero, suc}
 use lib.Dec.{leb, eqb}
-use lib.ListN.{length, take}
+use lib.ListN.{length}
 use Rattle.key_numbers.specs.declared.numbers.TekNumber.{TekNumber}
 use Rattle.keys.specs.declared.traffic.TrafficKey.{TrafficKey}
 use Rattle.questions.specs.declared.refusal.Refusal.the-variants.{OutOfLimits, WrongLength, NoKeyForFrame}
-use Rattle.keys.specs.declared.frame.Opening.{Opening}
-use Rattle.keys.specs.declared.frame.Opening.the-variants.{ByOlder, ByNewer, ByNeither}
 use Rattle.key_numbers.specs.Numbers.{tekInRange}
 use Rattle.keys.specs.Suites.{widthKnown}
 use Rattle.keys.specs.Octets.{overlay}
 use Rattle.keys.specs.Traffic.{keyFrom, pairFits}
-use Rattle.keys.specs.Frame.{openingNumber, openingOf}
+use Rattle.keys.specs.Frame.{openingOf, opens}
+use Rattle.keys.specs.Sealing.{KeyOut, openedBy}
 use Rattle.questions.specs.Questions.{firstNo}
 use Rattle.questions.specs.Refusal.{answerNumber}
 
@@ -27,16 +26,6 @@ frameFits clock older newer w number =
 unfoldable pub slicesFit : ℕ → ℕ → ℕ → Bool
 slicesFit keys tek vector = eqb keys 64 && leb 16 tek && leb 16 vector
 
--- Question 13: a held key opens the frame
-abbrev pub isHeld : Opening → Bool
-isHeld o = eqb (openingNumber o) 0
-
--- The key that opens the frame; where there is none the call is refused, and the key that stands here is not given out
-abbrev pub chosenOf : Opening → TrafficKey → TrafficKey → TrafficKey
-chosenOf ByOlder older newer = older
-chosenOf ByNewer older newer = newer
-chosenOf ByNeither older newer = older
-
 -- What the call answers, and what it writes at the front of the two lent slices
 pub record Given : Type 0 where
   pub number : ℕ
@@ -44,24 +33,23 @@ pub record Given : Type 0 where
   pub vector : List ℕ
 
 -- A refusal writes nothing
-abbrev pub given : ℕ → List ℕ → List ℕ → Given
-given zero tek vector = record { number = 0; tek = tek; vector = vector }
-given (suc n) tek vector = record { number = suc n; tek = []; vector = [] }
+abbrev pub given : ℕ → KeyOut → Given
+given zero out = record { number = 0; tek = out .tek; vector = out .vector }
+given (suc n) out = record { number = suc n; tek = []; vector = [] }
 
+-- 13 is asked of the decision's number, and what is given out is its value
 unfoldable pub frameNumber : ℕ → TrafficKey → TrafficKey → ℕ → TekNumber → ℕ → ℕ → ℕ → ℕ
 frameNumber clock older newer w number keys tek vector =
     answerNumber
     (firstNo
     (record { refusal = OutOfLimits; met = frameFits clock older newer w number }
     ∷ record { refusal = WrongLength; met = slicesFit keys tek vector }
-    ∷ record { refusal = NoKeyForFrame; met = isHeld (openingOf clock number older newer) }
+    ∷ record { refusal = NoKeyForFrame; met = opens (openingOf clock number older newer) }
     ∷ []))
 
 unfoldable pub decisionOf : ℕ → TrafficKey → TrafficKey → ℕ → TekNumber → ℕ → ℕ → ℕ → Given
 decisionOf clock older newer w number keys tek vector =
-    given (frameNumber clock older newer w number keys tek vector)
-    (take w (chosenOf (openingOf clock number older newer) older newer .tek))
-    (take w (chosenOf (openingOf clock number older newer) older newer .vector))
+    given (frameNumber clock older newer w number keys tek vector) (openedBy (openingOf clock number older newer) w older newer)
 
 abbrev tekOf : ℕ → TekNumber
 tekOf n = record { 0 = n }

@@ -1,12 +1,12 @@
 // The frame decision: which of a held pair's keys opens a frame, with its TEK and vector.
 ghost use mathlib.Core.Path.{_≡_};
 ghost use lib.ListN.{length};
-ghost use Rattle.frame_decision.specs.Frame.{frameFits, slicesFit, isHeld, chosenOf, frameOf, Gives};
+ghost use Rattle.frame_decision.specs.Frame.{frameFits, slicesFit, frameOf, Gives};
 use key_numbers::numbers::TekNumber;
 use key_numbers::numbers::tek_in_range;
-use keys::frame::Opening;
 use keys::frame::decide;
-use keys::octets::put;
+use keys::frame::opening_number;
+use keys::sealing::put_opened;
 use keys::suites::width_known;
 use keys::traffic::TrafficKey;
 use keys::traffic::key_from;
@@ -33,27 +33,6 @@ fn slices_fit(keys: usize, tek: usize, vector: usize) -> bool
     ensures { λ r. ⌜ r ≡ slicesFit keys tek vector ⌝ }
 {
     (keys == 64) & (16 <= tek) & (16 <= vector)
-}
-
-// Question 13.
-fn is_held(by: Opening) -> bool
-    ensures { λ r. ⌜ r ≡ isHeld by ⌝ }
-{
-    match by {
-        Opening::ByOlder => true,
-        Opening::ByNewer => true,
-        Opening::ByNeither => false,
-    }
-}
-
-fn chosen(by: Opening, older: TrafficKey, newer: TrafficKey) -> TrafficKey
-    ensures { λ r. ⌜ r ≡ chosenOf by older newer ⌝ }
-{
-    match by {
-        Opening::ByOlder => older,
-        Opening::ByNewer => newer,
-        Opening::ByNeither => older,
-    }
 }
 
 // The key of `keys` that opens a frame numbered `number` at `clock`: its first `width` octets of TEK and of vector go to the front
@@ -83,13 +62,10 @@ pub fn frame_decision(
         return 2;
     }
     let by = decide(older, newer, TekNumber(number), clock);
-    if !is_held(by) {
-        return 13;
+    let no = opening_number(by);
+    if no != 0 {
+        return no;
     }
-    let key = chosen(by, older, newer);
-    let key_tek = key.tek;
-    let key_vector = key.vector;
-    put(key_tek, width, tek);
-    put(key_vector, width, vector);
+    put_opened(by, width, older, newer, tek, vector);
     0
 }

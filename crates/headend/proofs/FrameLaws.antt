@@ -13,7 +13,7 @@ use Rattle.keys.specs.declared.traffic.TrafficKey.{TrafficKey}
 use Rattle.questions.specs.declared.refusal.Answer.{Answer}
 use Rattle.questions.specs.declared.refusal.Answer.the-variants.{Done, Refused}
 use Rattle.questions.specs.declared.refusal.Refusal.the-variants.{OutOfLimits, WrongLength, UnknownSaid, NoKeyForFrame}
-use Rattle.key_numbers.specs.Numbers.{tekInRange, sameTek}
+use Rattle.key_numbers.specs.Numbers.{tekInRange}
 use Rattle.keys.specs.Suites.{widthOf}
 use Rattle.keys.specs.Octets.{zeroPast}
 use Rattle.keys.specs.Traffic.{keyFits}
@@ -21,6 +21,7 @@ use Rattle.questions.specs.Questions.{Question}
 use Rattle.questions.specs.Refusal.{answerNumber}
 use Rattle.keys.specs.Frame.{serves, openingOf}
 use Rattle.keys.specs.Sealing.{keyOut, sealedFor, openedBy}
+use Rattle.keys.proofs.FrameLaws.{serves-is, opens-held}
 use Rattle.questions.proofs.TestLaws.{both}
 use Rattle.questions.proofs.AnswerLaws.{done-met}
 use Rattle.association.specs.declared.record.Assoc.{Assoc}
@@ -144,23 +145,15 @@ module _ (h : HeadEnd) (xs : List Assoc) (address said tek vector : ℕ) where
       }
 
 -- ---- opening
-module _ (clock : ℕ) (number : TekNumber) where
-  serves-facts : (k : TrafficKey) → serves clock number k ≡ true → (k .number ≡ number) × (clock < k .deadline)
-  unfolding serves
-  serves-facts k e =
-      let s = both (sameTek (k .number) number) (ltb clock (k .deadline)) e in
-      let same : k .number .0 ≡ number .0 = eqb-true (k .number .0) (number .0) (s .0) in
-      (ap (λ (n : ℕ). record { 0 = n }) same, ltb-true clock (k .deadline) (s .1))
+module _ (clock : ℕ) (number : TekNumber) (w : ℕ) (older newer : TrafficKey) where
+  by-older : serves clock number older ≡ true → openedBy (openingOf clock number older newer) w older newer ≡ keyOut w older
+  unfolding openingOf
+  by-older e = rw e
 
-  module _ (w : ℕ) (older newer : TrafficKey) where
-    by-older : serves clock number older ≡ true → openedBy (openingOf clock number older newer) w older newer ≡ keyOut w older
-    unfolding openingOf
-    by-older e = rw e
-
-    by-newer : serves clock number older ≡ false → serves clock number newer ≡ true
-        → openedBy (openingOf clock number older newer) w older newer ≡ keyOut w newer
-    unfolding openingOf
-    by-newer e q = rw (e, q)
+  by-newer : serves clock number older ≡ false → serves clock number newer ≡ true
+      → openedBy (openingOf clock number older newer) w older newer ≡ keyOut w newer
+  unfolding openingOf
+  by-newer e q = rw (e, q)
 
 module _ (h : HeadEnd) (xs : List Assoc) (address said : ℕ) (number : TekNumber) (tek vector lent : ℕ) where
   -- A frame is opened by a key of the SAID's record that has its number and counts
@@ -216,6 +209,7 @@ module _ (h : HeadEnd) (xs : List Assoc) (address said : ℕ) (number : TekNumbe
     open-is fits small range wide long room =
         rw (
           held-suits,
+          opens-held (h .clock) number (looked .held .older) (looked .held .newer),
           w .fits,
           le-leb (h .used) (firstOf (outOfLimits h) xs) (w .records),
           fits,
@@ -236,7 +230,7 @@ module _ (h : HeadEnd) (xs : List Assoc) (address said : ℕ) (number : TekNumbe
         let there = each .each address said own in
         let small : firstOf p xs < length xs = omega (arith, there .0, w .lent) in
         let same = looked-held p xs small in
-        let k = serves-facts (h .clock) number (of (getD xs (firstOf p xs) none)) (rw same at counts) in
+        let k = serves-is (h .clock) number (of (getD xs (firstOf p xs) none)) (rw same at counts) in
         record {
           done = done;
           place = firstOf p xs;

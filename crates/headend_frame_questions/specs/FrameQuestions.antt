@@ -8,7 +8,8 @@ use Rattle.questions.specs.declared.refusal.Answer.{Answer}
 use Rattle.questions.specs.declared.refusal.Refusal.the-variants.{OutOfLimits, WrongLength, UnknownSaid, NoKeyForFrame}
 use Rattle.key_numbers.specs.Numbers.{tekInRange}
 use Rattle.questions.specs.Questions.{firstNo}
-use Rattle.keys.specs.Frame.{serves}
+use Rattle.keys.specs.declared.frame.Opening.{Opening}
+use Rattle.keys.specs.Frame.{openingOf, opens}
 use Rattle.keys.specs.Sealing.{oneMore, countedAs}
 use Rattle.association.specs.declared.search.Found.{Found}
 use Rattle.keys.specs.Addresses.{saidFits, addressFits}
@@ -40,14 +41,18 @@ sealAnswer h bad len s address said tek vector =
     ∷ record { refusal = UnknownSaid; met = isOwn (knownOf h address) said }
     ∷ [])
 
--- ---- opening: 1, 2, 10 and 13; a frame goes up to the head-end, direction 0
+-- The frame decision on the keys of the record that was found
+abbrev pub openingIn : HeadEnd → Found → TekNumber → Opening
+openingIn h s number = openingOf (h .clock) number (s .held .older) (s .held .newer)
+
+-- ---- opening: 1, 2, 10 and 13; a frame goes up to the head-end, direction 0. 13 is asked of the decision on the record's two keys
 unfoldable pub openAnswer : HeadEnd → ℕ → ℕ → Found → ℕ → ℕ → ℕ → TekNumber → ℕ → ℕ → ℕ → Answer
 openAnswer h bad len s direction address said number tek vector lent =
     firstNo
     (record { refusal = OutOfLimits; met = frameFits h bad len s address said && eqb direction 0 && tekInRange number }
     ∷ record { refusal = WrongLength; met = leb (h .used) len && leb 16 tek && leb 16 vector && leb 40 lent }
     ∷ record { refusal = UnknownSaid; met = isOwn (knownOf h address) said }
-    ∷ record { refusal = NoKeyForFrame; met = serves (h .clock) number (s .held .older) || serves (h .clock) number (s .held .newer) }
+    ∷ record { refusal = NoKeyForFrame; met = opens (openingIn h s number) }
     ∷ [])
 
 -- The head-end with other counts of frames

@@ -1,5 +1,9 @@
 // The questions of sealing and of opening at the head-end, and the counts of frames.
 ghost use mathlib.Core.Path.{_≡_};
+ghost use mathlib.Core.List.{[], _∷_};
+ghost use Rattle.questions.specs.declared.refusal.Refusal.the-variants.{NoKeyForFrame};
+ghost use Rattle.questions.specs.Questions.{firstNo};
+ghost use Rattle.keys.specs.Frame.{openingOf, opens};
 ghost use Rattle.headend_frame_questions.specs.FrameQuestions.{isOwn, heldSuits, frameFits, sealAnswer, openAnswer, countedBy};
 use association::record::said_fits;
 use association::search::Found;
@@ -13,8 +17,10 @@ use headend_state::entries::is_listing;
 use headend_state::state::HeadEnd;
 use key_numbers::numbers::TekNumber;
 use key_numbers::numbers::tek_in_range;
-use keys::frame::is_serving;
+use keys::frame::decide;
+use keys::frame::opening_number;
 use keys::sealing::one_more;
+use keys::traffic::TrafficKey;
 use questions::refusal::Answer;
 use questions::refusal::Refusal;
 use questions::refusal::ask;
@@ -26,6 +32,17 @@ fn is_own(k: Known, said: u16) -> bool
     let e = k.entry;
     let l = e.listing;
     k.is_listed & is_listing(l, said)
+}
+
+// Question 13, of the decision on the two keys that are held.
+fn held_answer(older: TrafficKey, newer: TrafficKey, number: TekNumber, clock: u64) -> Answer
+    ensures { λ a. ⌜ a ≡ firstNo (record { refusal = NoKeyForFrame; met = opens (openingOf clock number older newer) } ∷ []) ⌝ }
+{
+    let by = decide(older, newer, number, clock);
+    if opening_number(by) != 0 {
+        return Answer::Refused(Refusal::NoKeyForFrame);
+    }
+    Answer::Done
 }
 
 // Question 1 of the record that a frame's key is taken from.
@@ -91,8 +108,7 @@ pub fn open_answer(
     let k = entry_of(h, address);
     let q1 = frame_fits(h, bad, len, s, address, said) & (direction == 0) & tek_in_range(number);
     let q2 = (h.used <= len) & (16 <= tek) & (16 <= vector) & (40 <= lent);
-    let q13 = is_serving(older, number, h.clock) | is_serving(newer, number, h.clock);
-    let a13 = ask(q13, Refusal::NoKeyForFrame, Answer::Done);
+    let a13 = held_answer(older, newer, number, h.clock);
     let a10 = ask(is_own(k, said), Refusal::UnknownSaid, a13);
     let a2 = ask(q2, Refusal::WrongLength, a10);
     ask(q1, Refusal::OutOfLimits, a2)

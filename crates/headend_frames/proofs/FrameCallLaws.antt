@@ -1,6 +1,6 @@
 -- Calls on frames: what their passed questions say, that a TEK Invalid can be written, and what each answer hands back and writes.
 use mathlib.Core.Path.{_≡_, refl, sym, _∙_, ap, subst}
-use mathlib.Core.Bool.{Bool, true, false, cond, _&&_, _||_}
+use mathlib.Core.Bool.{Bool, true, false, cond, _&&_}
 use mathlib.Core.List.{List, [], _∷_}
 use Prim.Native.Nat.{ℕ, _+_, _%_, _≤_, _<_}
 use native.Mathlib.Omega.{arith}
@@ -18,7 +18,7 @@ use Rattle.keys.specs.Octets.{allZero, zeroPast, overlay}
 use Rattle.keys.specs.Suites.{widthOf}
 use Rattle.questions.specs.Questions.{Question}
 use Rattle.questions.specs.Refusal.{numberOf, answerNumber, isDone}
-use Rattle.keys.specs.Frame.{serves}
+use Rattle.keys.specs.Frame.{opens}
 use Rattle.keys.specs.Sealing.{KeyOut, keyOut, Sealed, sealedFor, openedBy, sealCalled}
 use Rattle.questions.proofs.AnswerLaws.{done-met, is-done, number-done}
 use Rattle.questions.proofs.TestLaws.{both}
@@ -37,8 +37,8 @@ use Rattle.headend_state.specs.Entries.{knownOf}
 use Rattle.headend_limits.specs.Limits.{headFits as stateFits}
 use Rattle.headend_limits.specs.Search.{recordsFit}
 use Rattle.headend_steps.specs.Receive.{answerOctets, Writable}
-use Rattle.headend_frame_questions.specs.FrameQuestions.{isOwn, heldSuits, frameFits, sealAnswer, openAnswer, countedBy}
-use Rattle.headend_frames.specs.Frames.{openingIn, invalidFields, invalidOctets, HeadOpened, openedFor}
+use Rattle.headend_frame_questions.specs.FrameQuestions.{isOwn, heldSuits, frameFits, sealAnswer, openingIn, openAnswer, countedBy}
+use Rattle.headend_frames.specs.Frames.{invalidFields, invalidOctets, HeadOpened, openedFor}
 use Rattle.headend_frames.specs.FrameCalled.{openCalled, Openable}
 
 -- ---- what the passed questions say
@@ -82,7 +82,7 @@ module _ (h : HeadEnd) (bad len : ℕ) (s : Found) (address said : ℕ) where
         first-two (frameFits h bad len s address said && eqb direction 0 && tekInRange number)
         (leb (h .used) len && leb 16 tek && leb 16 vector && leb 40 lent)
         (isOwn (knownOf h address) said)
-        (serves (h .clock) number (s .held .older) || serves (h .clock) number (s .held .newer)) n e one other in
+        (opens (openingIn h s number)) n e one other in
         let a₂ = both (frameFits h bad len s address said && eqb direction 0) (tekInRange number) (q .0) in
         let a₁ = both (frameFits h bad len s address said) (eqb direction 0) (a₂ .0) in
         let b₃ = both (leb (h .used) len && leb 16 tek && leb 16 vector) (leb 40 lent) (q .1) in
@@ -149,13 +149,13 @@ module _ (w : ℕ) (k : TrafficKey) (tek vector : List ℕ) where
   seal-refused a q same e = subst (λ (y : Answer). SealSays (sealedFor y w k) (no-key a) tek vector tek vector) same (seal-no a e)
 
   -- `v` and `n` are the width and the octets written as the code has them
-  module _ (v n : ℕ) (tek′ vector′ : List ℕ) (wide : v ≡ w)
-      (put : (n ≡ length (keyOut v k .tek)) × (tek′ ≡ overlay tek (keyOut v k .tek)) × (vector′ ≡ overlay vector (keyOut v k .vector))) where
+  module _ (v n : ℕ) (wide : v ≡ w) (count : n ≡ length (keyOut v k .tek)) (tek′ vector′ : List ℕ)
+      (tek-put : tek′ ≡ overlay tek (keyOut v k .tek)) (vector-put : vector′ ≡ overlay vector (keyOut v k .vector)) where
     abbrev by-key : Answer → SealedCall
     by-key a = record { answer = a; number = k .number; width = n }
 
     seal-yes : (a : Answer) → a ≡ Done → SealSays (sealedFor a w k) (by-key a) tek vector tek′ vector′
-    seal-yes a e = rw (e, sym wide) (ap (λ (m : ℕ). record { answer = Done; number = k .number; width = m }) (put .0), put .1, put .2)
+    seal-yes a e = rw (e, sym wide) (ap (λ (m : ℕ). record { answer = Done; number = k .number; width = m }) count, tek-put, vector-put)
 
     pub seal-done : (a q : Answer) → a ≡ q → isDone a ≡ true → SealSays (sealedFor q w k) (by-key a) tek vector tek′ vector′
     seal-done a q same e = subst (λ (y : Answer). SealSays (sealedFor y w k) (by-key a) tek vector tek′ vector′) same (seal-yes a (is-done a e))

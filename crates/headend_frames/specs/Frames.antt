@@ -4,12 +4,10 @@ use mathlib.Core.List.{List, []}
 use Prim.Native.Nat.{ℕ}
 use lib.Dec.{ltb, eqb}
 use Rattle.key_numbers.specs.declared.numbers.TekNumber.{TekNumber}
-use Rattle.keys.specs.declared.frame.Opening.{Opening}
 use Rattle.questions.specs.declared.refusal.Answer.{Answer}
 use Rattle.questions.specs.declared.refusal.Answer.the-variants.{Done, Refused}
 use Rattle.keys.specs.Suites.{widthOf}
 use Rattle.questions.specs.Refusal.{answerNumber}
-use Rattle.keys.specs.Frame.{openingOf}
 use Rattle.keys.specs.Sealing.{KeyOut, noOut, Sealed, sealedFor, openedBy}
 use Rattle.association.specs.declared.search.Found.{Found}
 use Rattle.wire.specs.declared.fields.Fields.{Fields}
@@ -19,7 +17,7 @@ use Rattle.headend_state.specs.declared.entries.Known.{Known}
 use Rattle.headend_state.specs.Authorization.{newestNumber}
 use Rattle.headend_state.specs.Entries.{knownOf}
 use Rattle.answer_fields.specs.AnswerFields.{errorAnswer}
-use Rattle.headend_frame_questions.specs.FrameQuestions.{sealAnswer, openAnswer, countedBy}
+use Rattle.headend_frame_questions.specs.FrameQuestions.{sealAnswer, openingIn, openAnswer, countedBy}
 
 -- Sealing: with the older key
 unfoldable pub sealedWith : HeadEnd → ℕ → ℕ → Found → ℕ → ℕ → ℕ → ℕ → Sealed
@@ -27,9 +25,6 @@ sealedWith h bad len s address said tek vector =
     sealedFor (sealAnswer h bad len s address said tek vector) (widthOf (s .held .suite)) (s .held .older)
 
 -- ---- opening
-abbrev pub openingIn : HeadEnd → Found → TekNumber → Opening
-openingIn h s number = openingOf (h .clock) number (s .held .older) (s .held .newer)
-
 -- On 13 a TEK Invalid: error 4, the number of the modem's newest authorization key; none where no key is active
 abbrev pub invalidFields : Known → ℕ → Fields
 invalidFields k said = errorAnswer 11 0 (newestNumber (k .entry .keys)) said 4

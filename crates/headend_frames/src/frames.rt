@@ -3,7 +3,7 @@ ghost use mathlib.Core.Path.{_≡_};
 ghost use Prim.Native.Nat.{_≤_};
 ghost use lib.ListN.{length};
 ghost use Rattle.keys.specs.Octets.{overlay};
-ghost use Rattle.keys.specs.Sealing.{openedBy, sealCalled};
+ghost use Rattle.keys.specs.Sealing.{sealCalled};
 ghost use Rattle.headend_state.specs.Entries.{knownOf};
 ghost use Rattle.headend_frames.specs.Frames.{sealedWith, invalidOctets, openedFor, openedWith};
 ghost use Rattle.headend_frames.specs.FrameCalled.{openCalled, Openable};
@@ -17,12 +17,11 @@ use headend_state::entries::entry_of;
 use headend_state::state::HeadEnd;
 use headend_steps::receive::put_answer;
 use key_numbers::numbers::TekNumber;
-use keys::frame::Opening;
 use keys::frame::decide;
 use keys::sealing::SealedCall;
 use keys::sealing::put_key;
+use keys::sealing::put_opened;
 use keys::suites::width;
-use keys::traffic::TrafficKey;
 use questions::refusal::Answer;
 use questions::refusal::answer_number;
 use questions::refusal::is_done;
@@ -44,27 +43,6 @@ fn opened_call(a: Answer, h: HeadEnd, width: usize, count: usize) -> OpenedCall
         state: h,
         width: width,
         count: count,
-    }
-}
-
-// The octets of whichever held key opens the frame.
-fn put_opened(
-    o: Opening,
-    w: usize,
-    older: TrafficKey,
-    newer: TrafficKey,
-    tek: &mut [u8],
-    vector: &mut [u8],
-) -> usize
-    requires { ⌜ (w ≤ 16) × (16 ≤ length (now tek)) × (16 ≤ length (now vector)) ⌝ }
-    ensures { λ n. ⌜ (n ≡ length (openedBy o w older newer .tek))
-        × (now (tek .exit) ≡ overlay (now (tek .entry)) (openedBy o w older newer .tek))
-        × (now (vector .exit) ≡ overlay (now (vector .entry)) (openedBy o w older newer .vector)) ⌝ }
-{
-    match o {
-        Opening::ByOlder => put_key(older, w, tek, vector),
-        Opening::ByNewer => put_key(newer, w, tek, vector),
-        Opening::ByNeither => 0,
     }
 }
 

@@ -1,3 +1,4 @@
+pub mod FrameLaws
 pub mod OctetsLaws
 pub mod TrafficLaws
 pub mod StoreLaws

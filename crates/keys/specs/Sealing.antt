@@ -1,6 +1,7 @@
 -- What sealing and opening a frame give, and the count of frames (document 01, "Traffic keys at the head-end" and "The questions, in order").
 use mathlib.Core.Bool.{cond, _||_}
 use mathlib.Core.List.{List, []}
+use mathlib.Core.Option.{Option, none, some}
 use Prim.Native.Nat.{ℕ, _+_}
 use lib.Dec.{leb, eqb}
 use lib.ListN.{length, take}
@@ -8,9 +9,9 @@ use Rattle.key_numbers.specs.declared.numbers.TekNumber.{TekNumber}
 use Rattle.keys.specs.declared.traffic.TrafficKey.{TrafficKey}
 use Rattle.keys.specs.declared.sealing.SealedCall.{SealedCall}
 use Rattle.keys.specs.declared.frame.Opening.{Opening}
-use Rattle.keys.specs.declared.frame.Opening.the-variants.{ByOlder, ByNewer, ByNeither}
 use Rattle.questions.specs.declared.refusal.Answer.{Answer}
 use Rattle.questions.specs.declared.refusal.Answer.the-variants.{Done, Refused}
+use Rattle.keys.specs.Frame.{openingKey}
 
 -- The octets of a key that go to the front of the two lent slices: as many as the suite's width
 pub record KeyOut : Type 0 where
@@ -37,11 +38,13 @@ sealedFor (Refused r) w k = record { answer = Refused r; number = record { 0 = 0
 abbrev pub sealCalled : Sealed → SealedCall
 sealCalled s = record { answer = s .answer; number = s .number; width = length (s .out .tek) }
 
--- Opening gives the octets of whichever held key opens the frame
+-- Opening gives the octets of the decision's value: of the key that opens the frame, or none
+abbrev pub keyOutOf : ℕ → Option TrafficKey → KeyOut
+keyOutOf w none = noOut
+keyOutOf w (some k) = keyOut w k
+
 abbrev pub openedBy : Opening → ℕ → TrafficKey → TrafficKey → KeyOut
-openedBy ByOlder w older newer = keyOut w older
-openedBy ByNewer w older newer = keyOut w newer
-openedBy ByNeither w older newer = noOut
+openedBy o w older newer = keyOutOf w (openingKey o older newer)
 
 -- One more frame, up to 2^64 - 1
 unfoldable pub oneMore : ℕ → ℕ

@@ -1,9 +1,14 @@
 // The frame decision: which of the two held keys opens a frame, if any.
 ghost use mathlib.Core.Path.{_≡_};
-ghost use Rattle.keys.specs.Frame.{serves, openingOf};
+ghost use mathlib.Core.Bool.{cond};
+ghost use Rattle.questions.specs.Refusal.{numberOf};
+ghost use Rattle.questions.specs.declared.refusal.Refusal.the-variants.{NoKeyForFrame};
+ghost use Rattle.keys.specs.Frame.{serves, keyHeld, keyFor, openingOf, openingNumber, openingKey};
 use crate::traffic::TrafficKey;
 use key_numbers::numbers::TekNumber;
 use key_numbers::numbers::same_tek;
+use questions::refusal::Refusal;
+use questions::refusal::number;
 
 // Which of a pair's keys opens a frame.
 pub enum Opening {
@@ -19,8 +24,11 @@ pub fn is_serving(k: TrafficKey, number: TekNumber, clock: u64) -> bool
     same_tek(k.number, number) & (clock < k.deadline)
 }
 
+// The case, its number, and its value: 0 and the key that serves, or 13 and none.
 pub fn decide(older: TrafficKey, newer: TrafficKey, number: TekNumber, clock: u64) -> Opening
-    ensures { λ r. ⌜ r ≡ openingOf clock number older newer ⌝ }
+    ensures { λ r. ⌜ (r ≡ openingOf clock number older newer)
+        × (openingNumber r ≡ cond (keyHeld clock number older newer) 0 (numberOf NoKeyForFrame))
+        × (openingKey r older newer ≡ keyFor clock number older newer) ⌝ }
 {
     if is_serving(older, number, clock) {
         return Opening::ByOlder;
@@ -29,4 +37,15 @@ pub fn decide(older: TrafficKey, newer: TrafficKey, number: TekNumber, clock: u6
         return Opening::ByNewer;
     }
     Opening::ByNeither
+}
+
+// Document 01's number of a decision.
+pub fn opening_number(o: Opening) -> u8
+    ensures { λ n. ⌜ n ≡ openingNumber o ⌝ }
+{
+    match o {
+        Opening::ByOlder => 0,
+        Opening::ByNewer => 0,
+        Opening::ByNeither => number(Refusal::NoKeyForFrame),
+    }
 }

@@ -1,9 +1,10 @@
-// What sealing hands back at either end, a key's octets put into two lent slices, and the count of frames.
+// What sealing hands back at either end, the octets of a key and of a frame decision put into two lent slices, and the count of frames.
 ghost use mathlib.Core.Path.{_≡_};
 ghost use Prim.Native.Nat.{_≤_};
 ghost use lib.ListN.{length};
 ghost use Rattle.keys.specs.Octets.{overlay};
-ghost use Rattle.keys.specs.Sealing.{keyOut, oneMore};
+ghost use Rattle.keys.specs.Sealing.{keyOut, openedBy, oneMore};
+use crate::frame::Opening;
 use crate::octets::put;
 use crate::traffic::TrafficKey;
 use key_numbers::numbers::TekNumber;
@@ -38,4 +39,25 @@ pub fn put_key(k: TrafficKey, w: usize, tek: &mut [u8], vector: &mut [u8]) -> us
     put(tek_octets, w, tek);
     put(vector_octets, w, vector);
     w
+}
+
+// The same of whichever held key opens the frame; 0 where there is none.
+pub fn put_opened(
+    o: Opening,
+    w: usize,
+    older: TrafficKey,
+    newer: TrafficKey,
+    tek: &mut [u8],
+    vector: &mut [u8],
+) -> usize
+    requires { ⌜ (w ≤ 16) × (16 ≤ length (now tek)) × (16 ≤ length (now vector)) ⌝ }
+    ensures { λ n. ⌜ (n ≡ length (openedBy o w older newer .tek))
+        × (now (tek .exit) ≡ overlay (now (tek .entry)) (openedBy o w older newer .tek))
+        × (now (vector .exit) ≡ overlay (now (vector .entry)) (openedBy o w older newer .vector)) ⌝ }
+{
+    match o {
+        Opening::ByOlder => put_key(older, w, tek, vector),
+        Opening::ByNewer => put_key(newer, w, tek, vector),
+        Opening::ByNeither => 0,
+    }
 }

@@ -1,19 +1,26 @@
 -- Questions 13 and 14 of a pair of keys, and the counts of frames, at the modem.
-use mathlib.Core.Bool.{Bool, _&&_, _||_}
+use mathlib.Core.Bool.{Bool, cond, _&&_}
 use Prim.Native.Nat.{ℕ}
 use lib.Dec.{ltb, eqb}
 use Rattle.key_numbers.specs.declared.numbers.TekNumber.{TekNumber}
-use Rattle.keys.specs.Frame.{serves}
+use Rattle.keys.specs.declared.frame.Opening.{Opening}
+use Rattle.keys.specs.declared.frame.Opening.the-variants.{ByNeither}
+use Rattle.keys.specs.Frame.{openingOf, opens}
 use Rattle.keys.specs.Sealing.{oneMore, countedAs}
 use Rattle.tek_parts.specs.declared.parts.Pair.{Pair}
 use Rattle.modem_steps.specs.declared.state.Modem.{Modem}
 
--- Questions 14 and 13 of a pair: a key counts while its deadline is after the clock
+-- Question 14 of a pair: a key counts while its deadline is after the clock
 abbrev pub pairSeals : ℕ → Pair → Bool
 pairSeals clock p = eqb (p .held) 1 && ltb clock (p .newer .deadline)
 
+-- The frame decision on a pair: where it is not held, neither key opens the frame
+abbrev pub pairOpening : ℕ → TekNumber → Pair → Opening
+pairOpening clock number p = cond (eqb (p .held) 1) (openingOf clock number (p .older) (p .newer)) ByNeither
+
+-- Question 13, asked of that decision
 abbrev pub pairOpens : ℕ → TekNumber → Pair → Bool
-pairOpens clock number p = eqb (p .held) 1 && (serves clock number (p .older) || serves clock number (p .newer))
+pairOpens clock number p = opens (pairOpening clock number p)
 
 -- The modem with other counts of frames
 abbrev pub withCounts : Modem → ℕ → ℕ → Modem

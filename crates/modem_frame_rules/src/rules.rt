@@ -1,8 +1,10 @@
 // Questions 13 and 14 of a pair, and the counts of frames.
 ghost use mathlib.Core.Path.{_≡_};
-ghost use Rattle.modem_frame_rules.specs.FrameRules.{countedBy, pairSeals, pairOpens};
+ghost use Rattle.modem_frame_rules.specs.FrameRules.{countedBy, pairSeals, pairOpening, pairOpens};
 use key_numbers::numbers::TekNumber;
-use keys::frame::is_serving;
+use keys::frame::Opening;
+use keys::frame::decide;
+use keys::frame::opening_number;
 use keys::sealing::one_more;
 use modem_steps::state::Modem;
 use questions::refusal::Answer;
@@ -21,16 +23,29 @@ pub fn can_seal(clock: u64, p: Pair) -> bool
     ensures { λ r. ⌜ r ≡ pairSeals clock p ⌝ }
 {
     let newer = p.newer;
-    (p.held == 1) & (clock < newer.deadline)
+    if p.held != 1 {
+        return false;
+    }
+    clock < newer.deadline
+}
+
+// The frame decision on a pair; where it is not held, no key opens the frame.
+pub fn pair_opening(clock: u64, number: TekNumber, pair: Pair) -> Opening
+    ensures { λ r. ⌜ r ≡ pairOpening clock number pair ⌝ }
+{
+    let older = pair.older;
+    let newer = pair.newer;
+    if pair.held != 1 {
+        return Opening::ByNeither;
+    }
+    decide(older, newer, number, clock)
 }
 
 // Question 13.
 pub fn can_open(clock: u64, number: TekNumber, p: Pair) -> bool
     ensures { λ r. ⌜ r ≡ pairOpens clock number p ⌝ }
 {
-    let older = p.older;
-    let newer = p.newer;
-    (p.held == 1) & (is_serving(older, number, clock) | is_serving(newer, number, clock))
+    opening_number(pair_opening(clock, number, p)) == 0
 }
 
 // An opening that gave the number `n` adds one to the frames taken, or to those refused with 10 or 13.

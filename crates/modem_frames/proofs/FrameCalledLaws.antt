@@ -17,8 +17,7 @@ use Rattle.key_numbers.specs.Numbers.{tekInRange}
 use Rattle.keys.specs.Octets.{overlay}
 use Rattle.questions.specs.Refusal.{answerNumber, isDone}
 use Rattle.keys.specs.Suites.{widthOf}
-use Rattle.keys.specs.Frame.{openingOf}
-use Rattle.keys.specs.Sealing.{KeyOut, Sealed, sealedFor, openedBy, sealCalled}
+use Rattle.keys.specs.Sealing.{Sealed, sealedFor, openedBy, sealCalled}
 use Rattle.questions.proofs.TestLaws.{both}
 use Rattle.questions.proofs.AnswerLaws.{is-done, number-done}
 use Rattle.wire.specs.Fields.{noParams}
@@ -32,7 +31,7 @@ use Rattle.keys.specs.declared.sealing.SealedCall.{SealedCall}
 use Rattle.modem_frame_rules.specs.declared.rules.OpenedCall.{OpenedCall}
 use Rattle.modem_limits.specs.Limits.{modemFits}
 use Rattle.modem.specs.Messages.{outOctets, OutFits}
-use Rattle.modem_frame_rules.specs.FrameRules.{countedBy}
+use Rattle.modem_frame_rules.specs.FrameRules.{pairOpening, countedBy}
 use Rattle.modem_frames.specs.Frames.{machineOf, canSeal, sealAnswer, sealOf, canOpen, openAnswer, ModemOpened, missed, openedFor, openOf, machineOut, sealAsked, openAsked}
 use Rattle.modem_frames.specs.FrameCalled.{openedCall, openCalled, knownMachine}
 use Rattle.modem.proofs.OutLaws.{out-wider}
@@ -158,22 +157,15 @@ module _ (m : Modem) (said : ℕ) where
   opened-other number Done e z = absurd (z refl)
   opened-other number (Refused r) e z = ap (λ (b : Bool). missed b (Refused r) m said) (sym (ne-eqb (answerNumber (Refused r)) 13 e))
 
--- ---- the octets of whichever key opens
-pub opened-by : (clock : ℕ) (number : TekNumber) (t : Tek) (o q : Opening) (w : ℕ) (tek vector : List ℕ) (n : ℕ) (tek₁ vector₁ : List ℕ)
-    → o ≡ openingOf clock number (t .pair .older) (t .pair .newer) → o ≡ q → w ≡ widthOf (t .suite)
-    → n ≡ length (openedBy q w (t .pair .older) (t .pair .newer) .tek)
-    → tek₁ ≡ overlay tek (openedBy q w (t .pair .older) (t .pair .newer) .tek)
-    → vector₁ ≡ overlay vector (openedBy q w (t .pair .older) (t .pair .newer) .vector)
+-- ---- the octets of the decision's value; `o` and `w` are the decision and the width as the code has them
+pub opened-by : (clock : ℕ) (number : TekNumber) (t : Tek) (o : Opening) (w : ℕ) (tek vector : List ℕ) (n : ℕ) (tek₁ vector₁ : List ℕ)
+    → o ≡ pairOpening clock number (t .pair) → w ≡ widthOf (t .suite)
+    → (n ≡ length (openedBy o w (t .pair .older) (t .pair .newer) .tek))
+    × (tek₁ ≡ overlay tek (openedBy o w (t .pair .older) (t .pair .newer) .tek))
+    × (vector₁ ≡ overlay vector (openedBy o w (t .pair .older) (t .pair .newer) .vector))
     → (n ≡ length (machineOut clock number t .tek))
     × ((tek₁ ≡ overlay tek (machineOut clock number t .tek)) × (vector₁ ≡ overlay vector (machineOut clock number t .vector)))
-opened-by clock number t o q w tek vector n tek₁ vector₁ eo e ew en e₁ e₂ =
-    let p = t .pair in
-    let by : openedBy q w (p .older) (p .newer) ≡ machineOut clock number t =
-    ap (λ (x : Opening). openedBy x w (p .older) (p .newer)) (sym e ∙ eo)
-    ∙ ap (λ (x : ℕ). openedBy (openingOf clock number (p .older) (p .newer)) x (p .older) (p .newer)) ew in (
-      en ∙ ap (λ (x : KeyOut). length (x .tek)) by,
-      (e₁ ∙ ap (λ (x : KeyOut). overlay tek (x .tek)) by, e₂ ∙ ap (λ (x : KeyOut). overlay vector (x .vector)) by),
-    )
+opened-by clock number t o w tek vector n tek₁ vector₁ eo ew put = rw (sym eo, sym ew) (put .0, (put .1, put .2))
 
 -- ---- opening: the call
 abbrev openedWith : Modem → TekNumber → Tek → ModemOpened

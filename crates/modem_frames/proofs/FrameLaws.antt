@@ -1,6 +1,6 @@
 -- What a frame that is sealed or opened says of the modem's slots, and the counts of frames.
 use mathlib.Core.Path.{_≡_, refl, sym, _∙_, ap}
-use mathlib.Core.Bool.{Bool, true, false, _&&_, _||_, cond}
+use mathlib.Core.Bool.{Bool, true, false, _&&_, cond}
 use mathlib.Core.Logic.{_⊎_, inl, inr}
 use mathlib.Core.List.{List, [], _∷_}
 use Prim.Native.Nat.{ℕ, _≤_, _<_}
@@ -13,14 +13,16 @@ use Rattle.questions.specs.declared.refusal.Answer.{Answer}
 use Rattle.questions.specs.declared.refusal.Answer.the-variants.{Done, Refused}
 use Rattle.questions.specs.declared.refusal.Refusal.{Refusal}
 use Rattle.questions.specs.declared.refusal.Refusal.the-variants.{OutOfLimits, WrongLength, UnknownSaid, NoKeyForFrame, NoKeyToSeal}
-use Rattle.key_numbers.specs.Numbers.{tekInRange, sameTek}
+use Rattle.key_numbers.specs.Numbers.{tekInRange}
 use Rattle.keys.specs.Octets.{zeroPast}
 use Rattle.keys.specs.Suites.{widthOf}
 use Rattle.questions.specs.Questions.{Question}
 use Rattle.questions.specs.Refusal.{answerNumber}
 use Rattle.keys.specs.Traffic.{keyFits, pairFits}
-use Rattle.keys.specs.Frame.{serves, openingOf}
-use Rattle.keys.specs.Sealing.{keyOut, sealedFor, openedBy, oneMore}
+use Rattle.keys.specs.declared.frame.Opening.{Opening}
+use Rattle.keys.specs.Frame.{openingKey, opens}
+use Rattle.keys.specs.Sealing.{keyOut, keyOutOf, sealedFor, oneMore}
+use Rattle.keys.proofs.FrameLaws.{opening-key}
 use Rattle.questions.proofs.TestLaws.{both}
 use Rattle.questions.proofs.AnswerLaws.{done-met}
 use Rattle.wire.proofs.HoldsLaws.{never}
@@ -32,6 +34,7 @@ use Rattle.modem_steps.specs.Slots.{steppedAt, toldReply, slotOfSaid}
 use Rattle.modem_receive.specs.Receive.{isKnown}
 use Rattle.modem_limits.specs.Limits.{keyZero, pairHeldFits, modemFits}
 use Rattle.modem_frame_rules.specs.FrameRules.{countedBy}
+use Rattle.modem_frame_rules.proofs.RuleLaws.{opens-held}
 use Rattle.modem_frames.specs.Frames.{machineOf, sealAsked, openAsked, canSeal, sealAnswer, sealOf, canOpen, openAnswer, ModemOpened, openedFor, openOf}
 use Rattle.modem_limits.proofs.LimitsLaws.{limits-of, tek-in}
 use Rattle.modem.proofs.PairLaws.{first-found}
@@ -178,32 +181,6 @@ abbrev pub OpenCases : Modem → ℕ → ℕ → TekNumber → ModemOpened → T
 OpenCases m address said number o =
     (answerNumber (o .answer) ≡ 10) ⊎ ((answerNumber (o .answer) ≡ 13) ⊎ OpenFacts m address said number o)
 
-abbrev numbered : ℕ → TekNumber
-numbered n = record { 0 = n }
-
--- a key that serves has the frame's number and counts
-pub serves-is : (clock : ℕ) (number : TekNumber) (k : TrafficKey) → serves clock number k ≡ true → (k .number ≡ number) × (clock < k .deadline)
-unfolding serves
-serves-is clock number k e =
-    let h = both (sameTek (k .number) number) (ltb clock (k .deadline)) e in
-    let same : k .number .0 ≡ number .0 = eqb-true (k .number .0) (number .0) (h .0) in
-    let named : k .number ≡ number = ap numbered same in
-    (named, ltb-true clock (k .deadline) (h .1))
-
--- the key that opens
-opened-key : (clock : ℕ) (number : TekNumber) (w : ℕ) (older newer : TrafficKey) → (serves clock number older || serves clock number newer) ≡ true
-    → (k : TrafficKey) × ((k ≡ older) ⊎ (k ≡ newer)) × (k .number ≡ number) × (clock < k .deadline)
-    × (openedBy (openingOf clock number older newer) w older newer ≡ keyOut w k)
-unfolding openingOf
-opened-key clock number w older newer e = go (serves clock number older) refl (serves clock number newer) refl e
-  where
-    go : (a : Bool) → serves clock number older ≡ a → (b : Bool) → serves clock number newer ≡ b → (a || b) ≡ true
-        → (k : TrafficKey) × ((k ≡ older) ⊎ (k ≡ newer)) × (k .number ≡ number) × (clock < k .deadline)
-        × (openedBy (openingOf clock number older newer) w older newer ≡ keyOut w k)
-    go true ea b eb h = let s = serves-is clock number older ea in (older, inl refl, s .0, s .1, rw ea refl)
-    go false ea true eb h = let s = serves-is clock number newer eb in (newer, inr refl, s .0, s .1, rw (ea, eb) refl)
-    go false ea false eb h = never h
-
 opened-facts : (m : Modem) (address said : ℕ) (number : TekNumber) → isHere m address said ≡ true → canOpen m said number ≡ true
     → OpenFacts m address said number (openedFor Done m said number)
 opened-facts m address said number here can =
@@ -212,19 +189,20 @@ opened-facts m address said number here can =
     let newer = t .pair .newer in
     let at = both (eqb address (m .address)) (isKnown m said) here in
     let found = known-inside m said (at .1) in
-    let c = both (eqb (t .pair .held) 1) (serves (m .clock) number older || serves (m .clock) number newer) can in
-    let k = opened-key (m .clock) number (widthOf (t .suite)) older newer (c .1) in
+    let c = opens-held (m .clock) number (t .pair) can in
+    let k = opening-key (m .clock) number older newer (ap opens (sym (c .1)) ∙ can) in
+    let value = ap (λ (o : Opening). openingKey o older newer) (c .1) ∙ k .4 in
     record {
       done = refl;
       inside = found .0;
       said-is = found .2;
-      held = eqb-true (t .pair .held) 1 (c .0);
+      held = c .0;
       address-is = eqb-true address (m .address) (at .0);
       key = k .0;
       which = k .1;
       number-is = k .2;
       counts = k .3;
-      out = k .4;
+      out = ap (keyOutOf (widthOf (t .suite))) value;
     }
 
 -- a modem within its limits refuses such an opening with 10 or 13 alone

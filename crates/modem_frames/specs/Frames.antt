@@ -12,7 +12,6 @@ use Rattle.key_numbers.specs.Numbers.{tekInRange}
 use Rattle.keys.specs.Suites.{widthOf}
 use Rattle.questions.specs.Questions.{firstNo}
 use Rattle.questions.specs.Refusal.{answerNumber}
-use Rattle.keys.specs.Frame.{openingOf}
 use Rattle.keys.specs.Sealing.{KeyOut, noOut, Sealed, sealedFor, openedBy}
 use Rattle.tek_machine.specs.declared.tek.Tek.{Tek}
 use Rattle.modem_steps.specs.declared.state.Modem.{Modem}
@@ -21,16 +20,15 @@ use Rattle.modem_steps.specs.Slots.{slotOfSaid, told}
 use Rattle.modem_receive.specs.Receive.{isKnown}
 use Rattle.modem_limits.specs.Limits.{modemFits}
 use Rattle.modem.specs.Messages.{outOctets}
-use Rattle.modem_frame_rules.specs.FrameRules.{pairSeals, pairOpens, countedBy}
+use Rattle.modem_frame_rules.specs.FrameRules.{pairSeals, pairOpening, pairOpens, countedBy}
 
 -- The machine of a SAID
 abbrev pub machineOf : Modem → ℕ → Tek
 machineOf m said = slotAt m (slotOfSaid m said)
 
--- The octets of the key of a machine that opens a frame
+-- The octets that the frame decision on a machine's pair gives
 abbrev pub machineOut : ℕ → TekNumber → Tek → KeyOut
-machineOut clock number t =
-    openedBy (openingOf clock number (t .pair .older) (t .pair .newer)) (widthOf (t .suite)) (t .pair .older) (t .pair .newer)
+machineOut clock number t = openedBy (pairOpening clock number (t .pair)) (widthOf (t .suite)) (t .pair .older) (t .pair .newer)
 
 -- The answers, asked of the SAID's machine: 1, 2, 10 and 14 of a sealing, 1, 2, 10 and 13 of an opening. A frame comes down to the modem,
 -- direction 1; its address is the modem's own

@@ -11,16 +11,16 @@ ghost use Rattle.modem_frames.specs.Frames.{sealOf, missed, openOf, mach
 ghost use Rattle.modem_frames.specs.FrameCalled.{openedCall, openCalled, knownMachine};
 use key_numbers::numbers::TekNumber;
 use key_numbers::numbers::tek_in_range;
-use keys::frame::Opening;
-use keys::frame::decide;
 use keys::sealing::SealedCall;
 use keys::sealing::put_key;
+use keys::sealing::put_opened;
 use keys::suites::width;
 use modem::messages::put_out;
 use modem_frame_rules::rules::OpenedCall;
 use modem_frame_rules::rules::can_open;
 use modem_frame_rules::rules::can_seal;
 use modem_frame_rules::rules::counted;
+use modem_frame_rules::rules::pair_opening;
 use modem_limits::limits::modem_fits;
 use modem_steps::slots::slot_of_said;
 use modem_steps::state::Modem;
@@ -96,7 +96,13 @@ fn open_answer(
 }
 
 // The octets of the key of a machine that opens a frame, where one does; how many of each is handed back.
-fn put_opened(t: Tek, number: TekNumber, clock: u64, tek: &mut [u8], vector: &mut [u8]) -> usize
+fn put_machine_out(
+    t: Tek,
+    number: TekNumber,
+    clock: u64,
+    tek: &mut [u8],
+    vector: &mut [u8],
+) -> usize
     requires { ⌜ (16 ≤ length (now tek)) × (16 ≤ length (now vector)) ⌝ }
     ensures { λ n. ⌜ (n ≡ length (machineOut clock number t .tek))
         × ((now (tek .exit) ≡ overlay (now (tek .entry)) (machineOut clock number t .tek))
@@ -106,11 +112,8 @@ fn put_opened(t: Tek, number: TekNumber, clock: u64, tek: &mut [u8], vector: &mu
     let older = pair.older;
     let newer = pair.newer;
     let w = width(t.suite);
-    match decide(older, newer, number, clock) {
-        Opening::ByOlder => put_key(older, w, tek, vector),
-        Opening::ByNewer => put_key(newer, w, tek, vector),
-        Opening::ByNeither => 0,
-    }
+    let by = pair_opening(clock, number, pair);
+    put_opened(by, w, older, newer, tek, vector)
 }
 
 fn opened_call(answer: Answer, modem: Modem, width: usize, count: usize) -> OpenedCall
@@ -201,6 +204,6 @@ pub fn open(
     if n != 0 {
         return opened_call(a, next, 0, 0);
     }
-    let w = put_opened(t, number, m.clock, tek, vector);
+    let w = put_machine_out(t, number, m.clock, tek, vector);
     opened_call(a, next, w, 0)
 }

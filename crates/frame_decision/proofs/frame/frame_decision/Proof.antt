@@ -1,10 +1,9 @@
 -- `frame_decision::frame::frame_decision` meets its contract.
-use Prim.Native.Nat.{_≤_}
-use Rattle.frame_decision.proofs.FrameLaws.{limits-refused, lengths-refused, none-refused, key-given, width-small, slices-long, of-pair}
-use lib.ListN.{length}
-use borrow.Author.Tests.{not-true, not-false}
-use native.Mathlib.Omega.{arith}
 use mathlib.Core.Path.{sym, _∙_}
+use borrow.Author.Tests.{not-true, not-false}
+use lib.ListN.{length}
+use Rattle.frame_decision.proofs.FrameLaws.{limits-refused, lengths-refused, none-refused, key-given, width-small, slices-long, of-pair}
+use Prim.Native.Nat.{_≤_}
 use borrow.Author.Needs.{needs}
 use Rattle.frame_decision.proofs.frame.frame_decision.Statement.{statement}
 use Rattle.frame_decision.proofs.frame.frame_decision.Tie as tie
@@ -32,28 +31,18 @@ returns-2 c = of-pair _ _ _ _ _ _ _ _ _ (c .before .before .before .before .befo
 decide-requires : tie.Need-decide-requires
 decide-requires c κs = search needs
 
-is-held-requires : tie.Need-is-held-requires
-is-held-requires c κs = search needs
+opening-number-requires : tie.Need-opening-number-requires
+opening-number-requires c κs = search needs
 
 returns-3 : tie.Need-returns-3
 returns-3 c = of-pair _ _ _ _ _ _ _ _ _ (c .before .before .before .before .before .before .before .before .key-from .ensures) (c .before .before .before .before .before .before .before .key-from2 .ensures)
-    (none-refused _ _ _ _ _ _ _ _ _ (c .before .before .decide .ensures) (sym (c .before .before .before .before .before .before .frame-fits .ensures) ∙ not-false _ (c .before .before .before .before .before .if1 .left)) (sym (c .before .before .before .before .slices-fit .ensures) ∙ not-false _ (c .before .before .before .if2 .left))
-    (sym (c .before .is-held .ensures) ∙ not-true _ (c .if3 .taken)))
+    (none-refused _ _ _ _ _ _ _ _ _ (c .before .before .decide .ensures .0) _ (c .before .opening-number .ensures) (sym (c .before .before .before .before .before .before .frame-fits .ensures) ∙ not-false _ (c .before .before .before .before .before .if1 .left)) (sym (c .before .before .before .before .slices-fit .ensures) ∙ not-false _ (c .before .before .before .if2 .left)) (c .if3 .taken))
 
-chosen-requires : tie.Need-chosen-requires
-chosen-requires c κs = search needs
-
-put-requires : tie.Need-put-requires
-put-requires c κs = let a = c .before .before .before .before .before .before .before .before .before .before .before .before .before .before .before .before .args in
-    let narrow : a .width ≤ 16 = width-small _ _ _ _ _ (sym (c .before .before .before .before .before .before .before .before .before .before .frame-fits .ensures) ∙ not-false _ (c .before .before .before .before .before .before .before .before .before .if1 .left)) in
-    let long = slices-long (length (a .keys .now)) (length (a .tek .now)) (length (a .vector .now)) (sym (c .before .before .before .before .before .before .before .before .slices-fit .ensures) ∙ not-false _ (c .before .before .before .before .before .before .before .if2 .left)) in
-    (narrow, omega (arith, narrow, long .0))
-
-put-requires-2 : tie.Need-put-requires-2
-put-requires-2 c κs = let a = c .before .before .before .before .before .before .before .before .before .before .before .before .before .before .before .before .before .before .before .before .args in
-    let narrow : a .width ≤ 16 = width-small _ _ _ _ _ (sym (c .before .before .before .before .before .before .before .before .before .before .before .before .before .before .frame-fits .ensures) ∙ not-false _ (c .before .before .before .before .before .before .before .before .before .before .before .before .before .if1 .left)) in
-    let long = slices-long (length (a .keys .now)) (length (a .tek .now)) (length (a .vector .now)) (sym (c .before .before .before .before .before .before .before .before .before .before .before .before .slices-fit .ensures) ∙ not-false _ (c .before .before .before .before .before .before .before .before .before .before .before .if2 .left)) in
-    (narrow, omega (arith, narrow, long .1))
+put-opened-requires : tie.Need-put-opened-requires
+put-opened-requires c κs = let a = c .before .before .before .before .before .before .before .before .before .before .before .before .before .before .args in
+    let narrow : a .width ≤ 16 = width-small _ _ _ _ _ (sym (c .before .before .before .before .before .before .before .before .frame-fits .ensures) ∙ not-false _ (c .before .before .before .before .before .before .before .if1 .left)) in
+    let long = slices-long (length (a .keys .now)) (length (a .tek .now)) (length (a .vector .now)) (sym (c .before .before .before .before .before .before .slices-fit .ensures) ∙ not-false _ (c .before .before .before .before .before .if2 .left)) in
+    (narrow, long .0, long .1)
 
 same-length : tie.Need-same-length
 same-length c = search needs
@@ -62,9 +51,8 @@ same-length-2 : tie.Need-same-length-2
 same-length-2 c = search needs
 
 returns-4 : tie.Need-returns-4
-returns-4 c = of-pair _ _ _ _ _ _ _ _ _ (c .before .before .before .before .before .before .before .before .before .before .before .before .before .before .before .before .before .before .before .key-from .ensures) (c .before .before .before .before .before .before .before .before .before .before .before .before .before .before .before .before .before .before .key-from2 .ensures)
-    (key-given _ _ _ _ _ _ _ _ _ (c .before .before .before .before .before .before .before .before .before .before .before .before .before .decide .ensures) (sym (c .before .before .before .before .before .before .before .before .before .before .before .before .before .before .before .before .before .frame-fits .ensures) ∙ not-false _ (c .before .before .before .before .before .before .before .before .before .before .before .before .before .before .before .before .if1 .left)) (sym (c .before .before .before .before .before .before .before .before .before .before .before .before .before .before .before .slices-fit .ensures) ∙ not-false _ (c .before .before .before .before .before .before .before .before .before .before .before .before .before .before .if2 .left))
-    (sym (c .before .before .before .before .before .before .before .before .before .before .before .before .is-held .ensures) ∙ not-false _ (c .before .before .before .before .before .before .before .before .before .before .before .if3 .left)) _ (c .before .before .before .before .before .before .before .before .before .before .chosen .ensures) _ _ (c .before .before .before .before .before .before .put .ensures) (c .before .before .put2 .ensures))
+returns-4 c = of-pair _ _ _ _ _ _ _ _ _ (c .before .before .before .before .before .before .before .before .before .before .before .before .before .before .before .key-from .ensures) (c .before .before .before .before .before .before .before .before .before .before .before .before .before .before .key-from2 .ensures)
+    (key-given _ _ _ _ _ _ _ _ _ (c .before .before .before .before .before .before .before .before .before .decide .ensures .0) _ (c .before .before .before .before .before .before .before .before .opening-number .ensures) (sym (c .before .before .before .before .before .before .before .before .before .before .before .before .before .frame-fits .ensures) ∙ not-false _ (c .before .before .before .before .before .before .before .before .before .before .before .before .if1 .left)) (sym (c .before .before .before .before .before .before .before .before .before .before .before .slices-fit .ensures) ∙ not-false _ (c .before .before .before .before .before .before .before .before .before .before .if2 .left)) (c .before .before .before .before .before .before .before .if3 .left) _ _ (c .before .before .before .before .put-opened .ensures .1) (c .before .before .before .before .put-opened .ensures .2))
 
 pub frame-decision-spec : {M : Type 1} → statement M
 frame-decision-spec =
@@ -77,11 +65,9 @@ frame-decision-spec =
     slices-fit-requires
     returns-2
     decide-requires
-    is-held-requires
+    opening-number-requires
     returns-3
-    chosen-requires
-    put-requires
-    put-requires-2
+    put-opened-requires
     same-length
     same-length-2
     returns-4)

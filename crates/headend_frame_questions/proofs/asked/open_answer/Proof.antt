@@ -1,6 +1,6 @@
 -- `headend_frame_questions::asked::open_answer` meets its contract.
-use borrow.Author.Needs.{needs}
 use Rattle.headend_frame_questions.specs.FrameQuestions.{openAnswer}
+use borrow.Author.Needs.{needs}
 use Rattle.headend_frame_questions.proofs.asked.open_answer.Statement.{statement}
 use Rattle.headend_frame_questions.proofs.asked.open_answer.Tie as tie
 
@@ -13,17 +13,14 @@ frame-fits-requires c κs = search needs
 tek-in-range-requires : tie.Need-tek-in-range-requires
 tek-in-range-requires c κs = search needs
 
-is-serving-requires : tie.Need-is-serving-requires
-is-serving-requires c κs = search needs
-
-is-serving-requires-2 : tie.Need-is-serving-requires-2
-is-serving-requires-2 c κs = search needs
-
-ask-requires : tie.Need-ask-requires
-ask-requires c κs = search needs
+held-answer-requires : tie.Need-held-answer-requires
+held-answer-requires c κs = search needs
 
 is-own-requires : tie.Need-is-own-requires
 is-own-requires c κs = search needs
+
+ask-requires : tie.Need-ask-requires
+ask-requires c κs = search needs
 
 ask-requires-2 : tie.Need-ask-requires-2
 ask-requires-2 c κs = search needs
@@ -31,12 +28,9 @@ ask-requires-2 c κs = search needs
 ask-requires-3 : tie.Need-ask-requires-3
 ask-requires-3 c κs = search needs
 
-ask-requires-4 : tie.Need-ask-requires-4
-ask-requires-4 c κs = search needs
-
 returns : tie.Need-returns
 unfolding openAnswer
-returns c = simp (c .ask4 .ensures, c .before .ask3 .ensures, c .before .before .ask2 .ensures, c .before .before .before .is-own .ensures, c .before .before .before .before .ask .ensures, c .before .before .before .before .before .is-serving2 .ensures, c .before .before .before .before .before .before .is-serving .ensures, c .before .before .before .before .before .before .before .before .tek-in-range .ensures, c .before .before .before .before .before .before .before .before .before .frame-fits .ensures, c .before .before .before .before .before .before .before .before .before .before .entry-of .ensures)
+returns c = simp (c .ask3 .ensures, c .before .ask2 .ensures, c .before .before .ask .ensures, c .before .before .before .is-own .ensures, c .before .before .before .before .held-answer .ensures, c .before .before .before .before .before .before .tek-in-range .ensures, c .before .before .before .before .before .before .before .frame-fits .ensures, c .before .before .before .before .before .before .before .before .entry-of .ensures)
 
 pub open-answer-spec : {M : Type 1} → statement M
 open-answer-spec =
@@ -45,11 +39,9 @@ open-answer-spec =
     entry-of-requires
     frame-fits-requires
     tek-in-range-requires
-    is-serving-requires
-    is-serving-requires-2
-    ask-requires
+    held-answer-requires
     is-own-requires
+    ask-requires
     ask-requires-2
     ask-requires-3
-    ask-requires-4
     returns)

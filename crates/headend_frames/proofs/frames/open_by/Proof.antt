@@ -65,7 +65,7 @@ returns-3 c =
     let no = c .before .before .before .before .before .before .before .before .before .before .before .before .before .before .before .before .answer-number in
     let next = c .before .before .before .before .before .before .before .before .before .before .before .before .before .before .before .counted in
     open-done (x .h) (x .s) (x .address) (x .said) (x .number) (x .tek .now) (x .vector .now) (x .invalid .now) (x .a) (no .result) (no .ensures) (next .result) (next .ensures)
-    (c .opened-call3 .result) (c .before .before .before .before .before .before .before .before .before .before .before .before .before .if2 .left) (c .before .before .before .before .before .before .before .before .before .decide .result) (c .before .before .before .before .before .before .before .before .before .decide .ensures) (c .before .before .before .before .before .before .before .before .width .result) (c .before .before .before .before .before .before .before .before .width .ensures .0) (c .before .before .before .before .before .put-opened .result) _ _ (c .before .before .before .before .before .put-opened .ensures) (c .opened-call3 .ensures)
+    (c .opened-call3 .result) (c .before .before .before .before .before .before .before .before .before .before .before .before .before .if2 .left) (c .before .before .before .before .before .before .before .before .before .decide .result) (c .before .before .before .before .before .before .before .before .before .decide .ensures .0) (c .before .before .before .before .before .before .before .before .width .result) (c .before .before .before .before .before .before .before .before .width .ensures .0) (c .before .before .before .before .before .put-opened .result) _ _ (c .before .before .before .before .before .put-opened .ensures) (c .opened-call3 .ensures)
 
 pub open-by-spec : {M : Type 1} → statement M
 open-by-spec =

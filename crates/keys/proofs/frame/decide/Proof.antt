@@ -1,7 +1,7 @@
 -- `keys::frame::decide` meets its contract.
-use Rattle.keys.specs.Frame.{openingOf}
 use mathlib.Core.Path.{sym, _∙_}
 use borrow.Author.Needs.{needs}
+use Rattle.keys.proofs.FrameLaws.{by-older, by-newer, by-neither}
 use Rattle.keys.proofs.frame.decide.Statement.{statement}
 use Rattle.keys.proofs.frame.decide.Tie as tie
 
@@ -9,21 +9,18 @@ is-serving-requires : tie.Need-is-serving-requires
 is-serving-requires c κs = search needs
 
 returns : tie.Need-returns
-unfolding openingOf
-returns c = simp (sym (c .before .is-serving .ensures) ∙ c .if1 .taken)
+returns c = by-older _ _ _ _ (sym (c .before .is-serving .ensures) ∙ c .if1 .taken)
 
 is-serving-requires-2 : tie.Need-is-serving-requires-2
 is-serving-requires-2 c κs = search needs
 
 returns-2 : tie.Need-returns-2
-unfolding openingOf
 returns-2 c = let e = c .before .before in
-    simp (sym (e .before .is-serving .ensures) ∙ e .if1 .left, sym (c .before .is-serving2 .ensures) ∙ c .if2 .taken)
+    by-newer _ _ _ _ (sym (e .before .is-serving .ensures) ∙ e .if1 .left) (sym (c .before .is-serving2 .ensures) ∙ c .if2 .taken)
 
 returns-3 : tie.Need-returns-3
-unfolding openingOf
 returns-3 c = let e = c .before .before in
-    simp (sym (e .before .is-serving .ensures) ∙ e .if1 .left, sym (c .before .is-serving2 .ensures) ∙ c .if2 .left)
+    by-neither _ _ _ _ (sym (e .before .is-serving .ensures) ∙ e .if1 .left) (sym (c .before .is-serving2 .ensures) ∙ c .if2 .left)
 
 pub decide-spec : {M : Type 1} → statement M
 decide-spec =

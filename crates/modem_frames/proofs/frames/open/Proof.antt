@@ -40,8 +40,8 @@ returns-2 c =
     open-refused (x .m) (x .direction) (x .address) (x .said) (x .number) (x .tek .now) (x .vector .now) (x .out .now) (c .before .before .before .before .before .before .machine-of .result) (c .before .before .before .before .before .open-answer .result) (c .before .before .before .before .answer-number .result)
     (c .before .before .before .before .before .before .machine-of .ensures) (c .before .before .before .before .before .open-answer .ensures) (c .before .before .before .before .answer-number .ensures) (c .before .before .before .if1 .left) (c .before .if2 .taken) (c .before .before .counted .result) (c .opened-call .result) (c .before .before .counted .ensures) (c .opened-call .ensures)
 
-put-opened-requires : tie.Need-put-opened-requires
-put-opened-requires c κs =
+put-machine-out-requires : tie.Need-put-machine-out-requires
+put-machine-out-requires c κs =
     let x = c .before .before .before .before .before .before .before .before .before .before .before .args in
     open-long (x .m) (x .direction) (x .address) (x .said) (x .number) (x .tek .now) (x .vector .now) (x .out .now) (c .before .before .before .before .before .before .before .machine-of .result) (c .before .before .before .before .before .before .open-answer .result) (c .before .before .before .before .before .answer-number .result)
     (c .before .before .before .before .before .before .before .machine-of .ensures) (c .before .before .before .before .before .before .open-answer .ensures) (c .before .before .before .before .before .answer-number .ensures) (c .before .before .if2 .left)
@@ -59,8 +59,8 @@ returns-3 : tie.Need-returns-3
 returns-3 c =
     let x = c .before .before .before .before .before .before .before .before .before .before .before .before .before .before .before .before .before .args in
     open-done (x .m) (x .direction) (x .address) (x .said) (x .number) (x .tek .now) (x .vector .now) (x .out .now) (c .before .before .before .before .before .before .before .before .before .before .before .before .before .machine-of .result) (c .before .before .before .before .before .before .before .before .before .before .before .before .open-answer .result) (c .before .before .before .before .before .before .before .before .before .before .before .answer-number .result)
-    (c .before .before .before .before .before .before .before .before .before .before .before .before .before .machine-of .ensures) (c .before .before .before .before .before .before .before .before .before .before .before .before .open-answer .ensures) (c .before .before .before .before .before .before .before .before .before .before .before .answer-number .ensures) (c .before .before .before .before .before .before .before .before .if2 .left) (c .before .before .before .before .before .before .before .before .before .counted .result) (c .before .before .before .before .before .put-opened .result) (c .opened-call2 .result) _ _
-    (c .before .before .before .before .before .before .before .before .before .counted .ensures) (c .before .before .before .before .before .put-opened .ensures .0) (c .opened-call2 .ensures) (c .before .before .before .before .before .put-opened .ensures .1 .0) (c .before .before .before .before .before .put-opened .ensures .1 .1)
+    (c .before .before .before .before .before .before .before .before .before .before .before .before .before .machine-of .ensures) (c .before .before .before .before .before .before .before .before .before .before .before .before .open-answer .ensures) (c .before .before .before .before .before .before .before .before .before .before .before .answer-number .ensures) (c .before .before .before .before .before .before .before .before .if2 .left) (c .before .before .before .before .before .before .before .before .before .counted .result) (c .before .before .before .before .before .put-machine-out .result) (c .opened-call2 .result) _ _
+    (c .before .before .before .before .before .before .before .before .before .counted .ensures) (c .before .before .before .before .before .put-machine-out .ensures .0) (c .opened-call2 .ensures) (c .before .before .before .before .before .put-machine-out .ensures .1 .0) (c .before .before .before .before .before .put-machine-out .ensures .1 .1)
 
 pub open-spec : {M : Type 1} → statement M
 open-spec =
@@ -75,7 +75,7 @@ open-spec =
     counted-requires
     opened-call-requires
     returns-2
-    put-opened-requires
+    put-machine-out-requires
     opened-call-requires-2
     same-length-2
     same-length-3

@@ -1,7 +1,7 @@
--- `headend_frames::frames::put_opened` meets its contract.
+-- `keys::sealing::put_opened` meets its contract.
 use borrow.Author.Needs.{needs}
-use Rattle.headend_frames.proofs.frames.put_opened.Statement.{statement}
-use Rattle.headend_frames.proofs.frames.put_opened.Tie as tie
+use Rattle.keys.proofs.sealing.put_opened.Statement.{statement}
+use Rattle.keys.proofs.sealing.put_opened.Tie as tie
 
 enum-told : tie.Need-enum-told
 enum-told c = search needs
