@@ -21,7 +21,7 @@ use Rattle.association.specs.Listing.{listedOf}
 use Rattle.association.specs.Search.{hitOf, foundAt, missedAt}
 use Rattle.association.specs.Made.{Line, lineTo, linesTo, recordOf}
 use Rattle.association.proofs.RollLaws.{roll-line}
-use Rattle.records.specs.Records.{none, firstBy, firstOf, lookupOf, rolledTo, RollFit, listedRecords, storedAt}
+use Rattle.records.specs.Records.{none, firstBy, firstOf, lookupOf, nextPlace, rolledTo, RollFit, listedRecords, storedAt}
 
 -- ---- tests
 pub holds : (t : Bool) → T t → t ≡ true
@@ -114,12 +114,12 @@ module _ (half t : ℕ) (m : List ℕ) where
   pub roll-length : (at i : ℕ) (xs : List Assoc) → length (rolledTo half t m at i xs) ≡ length xs
   roll-length at zero xs = refl
   roll-length at (suc i) [] = refl
-  roll-length at (suc i) (x ∷ xs) = ap suc (roll-length (at + 64) i xs)
+  roll-length at (suc i) (x ∷ xs) = ap suc (roll-length (nextPlace at) i xs)
 
   at-to : (at i : ℕ) (xs : List Assoc) → getD (rolledTo half t m at i xs) i none ≡ getD xs i none
   at-to at zero xs = refl
   at-to at (suc i) [] = refl
-  at-to at (suc i) (x ∷ xs) = at-to (at + 64) i xs
+  at-to at (suc i) (x ∷ xs) = at-to (nextPlace at) i xs
 
   step-to : (at i : ℕ) (xs : List Assoc) → i < length xs → set (rolledTo half t m at i xs) i (rolledOf half t m (at + i * 64) (getD xs i none)) ≡ rolledTo half t m at (suc i) xs
   step-to at i [] small = absurd (omega (arith, small))
@@ -127,9 +127,9 @@ module _ (half t : ℕ) (m : List ℕ) where
       let e : at + 0 * 64 ≡ at = omega arith in
       ap (λ (k : ℕ). rolledOf half t m k x ∷ xs) e
   step-to at (suc i) (x ∷ xs) small =
-      let e : at + suc i * 64 ≡ (at + 64) + i * 64 = omega arith in
+      let e : at + suc i * 64 ≡ nextPlace at + i * 64 = omega arith in
       ap (λ (l : List Assoc). rolledOf half t m at x ∷ l)
-      (ap (λ (k : ℕ). set (rolledTo half t m (at + 64) i xs) i (rolledOf half t m k (getD xs i none))) e ∙ step-to (at + 64) i xs (omega arith))
+      (ap (λ (k : ℕ). set (rolledTo half t m (nextPlace at) i xs) i (rolledOf half t m k (getD xs i none))) e ∙ step-to (nextPlace at) i xs (omega arith))
 
   module _ (xs : List Assoc) (i : ℕ) where
     -- the records after i turns, and the one that turn i takes
@@ -156,7 +156,9 @@ module _ (half t : ℕ) (m : List ℕ) where
   pub roll-lines : (at : ℕ) (ls : List Line) (rest : List Assoc) → rolledTo half t m at (length ls) (map recordOf ls ++ rest) ≡ map recordOf (linesTo half t m at ls) ++ rest
   roll-lines at [] rest = refl
   roll-lines at (l ∷ ls) rest =
-      ap (λ (x : Assoc). x ∷ rolledTo half t m (at + 64) (length ls) (map recordOf ls ++ rest)) (roll-line half t m at l)
+      let next : nextPlace at ≡ at + 64 = omega arith in
+      ap (λ (x : Assoc). x ∷ rolledTo half t m (nextPlace at) (length ls) (map recordOf ls ++ rest)) (roll-line half t m at l)
+      ∙ ap (λ (k : ℕ). recordOf (lineTo half t m at l) ∷ rolledTo half t m k (length ls) (map recordOf ls ++ rest)) next
       ∙ ap (λ (xs : List Assoc). recordOf (lineTo half t m at l) ∷ xs) (roll-lines (at + 64) ls rest)
 
 -- ---- storing a listing: its first n records are stored, and the rest are as they were

@@ -39,11 +39,15 @@ lookupOf p xs =
 
 -- ---- the clock
 
+-- Where the octets of the next record start: each has 64
+abbrev pub nextPlace : ℕ → ℕ
+nextPlace at = at + 64
+
 -- The first i records rolled, each with its 64 octets of m, the first one's at `at`, and the rest as they were
 abbrev pub rolledTo : ℕ → ℕ → List ℕ → ℕ → ℕ → List Assoc → List Assoc
 rolledTo half t m at zero xs = xs
 rolledTo half t m at (suc i) [] = []
-rolledTo half t m at (suc i) (x ∷ xs) = rolledOf half t m at x ∷ rolledTo half t m (at + 64) i xs
+rolledTo half t m at (suc i) (x ∷ xs) = rolledOf half t m at x ∷ rolledTo half t m (nextPlace at) i xs
 
 -- What rolling the first `used` records asks, with len octets of material
 pub record RollFit (used half t : ℕ) (xs : List Assoc) (len : ℕ) : Type 0 where
