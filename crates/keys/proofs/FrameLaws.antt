@@ -1,6 +1,6 @@
 -- Laws of the frame decision (`specs/Frame.antt`): its number is 0 exactly where a held key serves, and its value is that key.
 use mathlib.Core.Path.{_≡_, refl, sym, _∙_, ap}
-use mathlib.Core.Bool.{Bool, true, false, cond, _||_}
+use mathlib.Core.Bool.{Bool, true, false, cond, _&&_, _||_}
 use mathlib.Core.Logic.{_⊎_, inl, inr}
 use mathlib.Core.Option.{some}
 use Prim.Native.Nat.{ℕ, _<_}
@@ -16,6 +16,12 @@ use Rattle.key_numbers.specs.Numbers.{sameTek}
 use Rattle.questions.specs.Refusal.{numberOf}
 use Rattle.questions.proofs.TestLaws.{both}
 use Rattle.keys.specs.Frame.{serves, keyHeld, keyFor, openingOf, openingNumber, openingKey, opens}
+
+-- by the test of its number as the code has it
+pub serves-by : (clock : ℕ) (number : TekNumber) (k : TrafficKey) (a : Bool) → a ≡ sameTek (k .number) number
+    → (a && ltb clock (k .deadline)) ≡ serves clock number k
+unfolding serves
+serves-by clock number k a e = ap (λ (x : Bool). x && ltb clock (k .deadline)) e
 
 -- a key that serves has the frame's number and counts
 pub serves-is : (clock : ℕ) (number : TekNumber) (k : TrafficKey) → serves clock number k ≡ true → (k .number ≡ number) × (clock < k .deadline)

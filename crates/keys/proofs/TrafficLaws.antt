@@ -1,11 +1,23 @@
--- Laws of the limits of held keys (`specs/Traffic.antt`).
-use mathlib.Core.Path.{_≡_}
+-- Laws of keys in octets and of the limits of held keys (`specs/Traffic.antt`).
+use mathlib.Core.Path.{_≡_, _∙_, ap}
 use mathlib.Core.Bool.{true}
+use mathlib.Core.List.{List}
 use Prim.Native.Nat.{ℕ, _+_, _%_, _≤_}
 use native.Mathlib.Omega.{arith}
 use borrow.Author.Tests.{le-leb, eq-eqb}
 use Rattle.key_numbers.specs.declared.numbers.TekNumber.{TekNumber}
 use Rattle.key_numbers.specs.Numbers.{afterOf, tekInRange, sameTek}
+use Rattle.keys.specs.declared.traffic.TrafficKey.{TrafficKey}
+use Rattle.keys.specs.Octets.{octetsOf}
+use Rattle.keys.specs.Traffic.{keyFrom}
+
+-- a key by its TEK and its vector as the code has them
+module _ (m : List ℕ) (at w : ℕ) (number : TekNumber) (deadline : ℕ) where
+  abbrev keyWith : List ℕ → List ℕ → TrafficKey
+  keyWith tek vector = record { number = number; deadline = deadline; tek = tek; vector = vector }
+
+  pub key-by : (tek vector : List ℕ) → tek ≡ octetsOf m at w → vector ≡ octetsOf m (at + 16) w → keyWith tek vector ≡ keyFrom m at w number deadline
+  key-by tek vector e q = ap (λ (x : List ℕ). keyWith x vector) e ∙ ap (keyWith (octetsOf m at w)) q
 
 pub after-in-range : (n : TekNumber) (k : ℕ) → tekInRange (afterOf n k) ≡ true
 after-in-range n k =

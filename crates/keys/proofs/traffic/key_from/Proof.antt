@@ -1,5 +1,6 @@
 -- `keys::traffic::key_from` meets its contract.
 use borrow.Author.Needs.{needs}
+use Rattle.keys.proofs.TrafficLaws.{key-by}
 use Rattle.keys.proofs.traffic.key_from.Statement.{statement}
 use Rattle.keys.proofs.traffic.key_from.Tie as tie
 
@@ -13,7 +14,9 @@ octets-requires-2 : tie.Need-octets-requires-2
 octets-requires-2 c κs = search needs
 
 returns : tie.Need-returns
-returns c = cc
+returns c =
+    let x = c .before .before .before .args in
+    key-by (x .m .now) (x .at) (x .w) (x .number) (x .deadline) (c .before .octets .result) (c .octets2 .result) (c .before .octets .ensures) (c .octets2 .ensures)
 
 pub key-from-spec : {M : Type 1} → statement M
 key-from-spec = tie.close (tie.spec octets-requires add-octets octets-requires-2 returns)
