@@ -1,5 +1,6 @@
 -- `answer_fields::fields::key_reply` meets its contract.
 use borrow.Author.Needs.{needs}
+use Rattle.answer_fields.proofs.FieldLaws.{reply-by}
 use Rattle.answer_fields.proofs.fields.key_reply.Statement.{statement}
 use Rattle.answer_fields.proofs.fields.key_reply.Tie as tie
 
@@ -16,7 +17,10 @@ no-descriptors-requires : tie.Need-no-descriptors-requires
 no-descriptors-requires c κs = search needs
 
 returns : tie.Need-returns
-returns c = cc
+returns c =
+    let x = c .before .before .before .before .before .before .before .args in
+    reply-by (x .clock) (x .a) (x .f) (c .before .before .before .before .before .before .width .result) (c .before .before .before .params-at .result) (c .before .before .params-at2 .result) (c .no-descriptors .result)
+    (c .before .before .before .before .before .before .width .ensures .0) (c .before .before .before .params-at .ensures) (c .before .before .params-at2 .ensures) (c .no-descriptors .ensures)
 
 pub key-reply-spec : {M : Type 1} → statement M
 key-reply-spec =
