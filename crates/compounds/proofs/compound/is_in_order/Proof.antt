@@ -1,7 +1,7 @@
 -- `compounds::compound::is_in_order` meets its contract.
 use Rattle.compounds.specs.Compounds.{inOrderOf}
 use native.Mathlib.Omega.{arith}
-use mathlib.Core.Path.{_≡_}
+use mathlib.Core.Path.{_≡_, refl}
 use Prim.Native.Nat.{_+_, _%_}
 use borrow.Author.Needs.{needs}
 use Rattle.compounds.proofs.compound.is_in_order.Statement.{statement}
@@ -14,7 +14,7 @@ returns : tie.Need-returns
 unfolding inOrderOf
 returns c = let n = c .before .before .before .before .args .older .number .0 in
     let same : (n % 16 + 1) % 16 ≡ (n + 1) % 16 = omega arith in
-    rw same
+    rw same refl
 
 pub is-in-order-spec : {M : Type 1} → statement M
 is-in-order-spec = tie.close (tie.spec add-result returns)

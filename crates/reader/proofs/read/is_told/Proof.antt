@@ -1,6 +1,7 @@
 -- `reader::read::is_told` meets its contract.
 use Rattle.reader.specs.Taken.{toldIn}
 use borrow.Author.Tests.{ne-eqb}
+use mathlib.Core.Path.{refl}
 use mathlib.Core.Logic.{⊎-elim, inl, inr}
 use borrow.Author.Needs.{needs}
 use Rattle.reader.proofs.read.is_told.Statement.{statement}
@@ -38,7 +39,7 @@ returns-3 c = ⊎-elim (λ e. rw e) (λ e. rw e) (c .match .keys3)
 
 returns-4 : tie.Need-returns-4
 unfolding toldIn
-returns-4 c = rw (c .match .keys4)
+returns-4 c = rw (c .match .keys4) refl
 
 returns-5 : tie.Need-returns-5
 unfolding toldIn

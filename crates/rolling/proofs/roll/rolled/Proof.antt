@@ -1,5 +1,10 @@
 -- `rolling::roll::rolled` meets its contract.
 use Rattle.association.specs.Roll.{rolledOf}
+use Prim.Native.Nat.{_+_, _*_}
+use mathlib.Core.Path.{_≡_, refl}
+use Rattle.key_numbers.specs.Numbers.{afterOf}
+use Rattle.keys.specs.Suites.{widthOf}
+use Rattle.association.specs.Mint.{mintOf}
 use borrow.Author.Tests.{lt-ltb, le-ltb}
 use borrow.Author.Needs.{needs}
 use Rattle.rolling.proofs.roll.rolled.Statement.{statement}
@@ -23,7 +28,15 @@ mint-requires c κs = search needs
 
 returns-2 : tie.Need-returns-2
 unfolding rolledOf
-returns-2 c = simp (le-ltb _ _ (c .before .before .before .before .before .before .if1 .left), lt-ltb _ _ (c .before .before .before .if2 .taken)) (cc)
+returns-2 c =
+    simp (
+      le-ltb _ _ (c .before .before .before .before .before .before .if1 .left),
+      lt-ltb _ _ (c .before .before .before .if2 .taken),
+      c .mint .ensures,
+      c .before .before .tek-after .ensures,
+      c .before .before .before .before .before .width .ensures .0,
+    )
+    refl
 
 tek-after-requires-2 : tie.Need-tek-after-requires-2
 tek-after-requires-2 c κs = search needs
@@ -51,7 +64,19 @@ mint-requires-3 c κs = search needs
 
 returns-3 : tie.Need-returns-3
 unfolding rolledOf
-returns-3 c = simp (le-ltb _ _ (c .before .before .before .before .before .before .before .if1 .left), le-ltb _ _ (c .before .before .before .before .if2 .left)) (cc)
+returns-3 c =
+    let x = c .before .before .before .before .before .before .before .before .before .before .before .before .args in
+    let first : c .before .before .mint2 .result ≡ mintOf (x .m .now) (x .at) (widthOf (x .a .suite)) (afterOf (x .a .newer .number) 1) (x .t + x .half) =
+    rw (c .before .before .mint2 .ensures, c .before .before .before .tek-after2 .ensures, c .before .before .before .before .before .before .width .ensures .0) refl in
+    let second : c .mint3 .result ≡ mintOf (x .m .now) (x .at + 32) (widthOf (x .a .suite)) (afterOf (x .a .newer .number) 2) (x .t + 2 * x .half) =
+    rw (c .mint3 .ensures, c .before .tek-after3 .ensures, c .before .before .before .before .before .before .width .ensures .0) refl in
+    simp (
+      le-ltb _ _ (c .before .before .before .before .before .before .before .if1 .left),
+      le-ltb _ _ (c .before .before .before .before .if2 .left),
+      first,
+      second,
+    )
+    refl
 
 pub rolled-spec : {M : Type 1} → statement M
 rolled-spec =
