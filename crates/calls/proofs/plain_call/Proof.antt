@@ -1,4 +1,5 @@
 -- `plain_call` meets its contract.
+use mathlib.Core.Path.{refl}
 use borrow.Author.Needs.{needs}
 use Rattle.calls.proofs.plain_call.Statement.{statement}
 use Rattle.calls.proofs.plain_call.Tie as tie
@@ -7,7 +8,7 @@ no-listing-requires : tie.Need-no-listing-requires
 no-listing-requires c κs = search needs
 
 returns : tie.Need-returns
-returns c = cc
+returns c = rw (c .no-listing .ensures) refl
 
 pub plain-call-spec : {M : Type 1} → statement M
 plain-call-spec = tie.close (tie.spec no-listing-requires returns)

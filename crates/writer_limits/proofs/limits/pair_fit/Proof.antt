@@ -1,4 +1,5 @@
 -- `writer_limits::limits::pair_fit` meets its contract.
+use mathlib.Core.Path.{refl}
 use borrow.Author.Needs.{needs}
 use Rattle.wire.specs.Limits.{pairFit}
 use Rattle.writer_limits.proofs.limits.pair_fit.Statement.{statement}
@@ -18,7 +19,7 @@ same-tek-requires c κs = search needs
 
 returns : tie.Need-returns
 unfolding pairFit
-returns c = simp (c .before .before .before .before .before .params-fit .ensures, c .before .before .before .before .params-fit2 .ensures, c .before .before .same-tek .ensures, c .before .before .before .tek-after .ensures)
+returns c = simp (c .before .before .before .before .before .params-fit .ensures, c .before .before .before .before .params-fit2 .ensures, c .before .before .same-tek .ensures, c .before .before .before .tek-after .ensures) refl
 
 pub pair-fit-spec : {M : Type 1} → statement M
 pair-fit-spec =
