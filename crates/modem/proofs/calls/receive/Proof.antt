@@ -143,7 +143,8 @@ returns-7 c = let a = c .before .before .before .before .before .before .before 
     let wide : widthsFit (a .m) (fieldsIn s) ≡ true = ap (λ (g : Fields). widthsFit (a .m) g) (sym same) ∙ sym (c .before .before .before .before .before .before .before .before .widths-fit .ensures) ∙ not-false _ (c .before .before .before .before .before .before .before .if4 .left) in
     let known : saidKnown (a .m) (fieldsIn s) ≡ true = ap (λ (g : Fields). saidKnown (a .m) g) (sym same) ∙ sym (c .before .before .before .before .before .before .said-known .ensures) ∙ not-false _ (c .before .before .before .before .before .if5 .left) in
     let right : identifierFits (a .m) (fieldsIn s) ≡ true = ap (λ (g : Fields). identifierFits (a .m) g) (sym same) ∙ sym (c .before .before .before .before .identifier-fits .ensures) ∙ not-false _ (c .before .before .before .if6 .left) in
-    let holds : digestHolds (a .digest) (fieldsIn s) ≡ false = ap (λ (g : Fields). digestHolds (a .digest) g) (sym same) ∙ sym (c .before .before .digest-holds .ensures) ∙ not-true _ (c .before .if7 .taken) in
+    let asked : c .before .before .digest-holds .result ≡ digestHolds (a .digest) (c .before .before .before .before .before .before .before .before .before .before .before .before .read .result .fields) = c .before .before .digest-holds .ensures in
+    let holds : digestHolds (a .digest) (fieldsIn s) ≡ false = ap (λ (g : Fields). digestHolds (a .digest) g) (sym same) ∙ sym asked ∙ not-true _ (c .before .if7 .taken) in
     refused-by (a .m) (a .out .now) _ _ DigestFails _ (met ∙ digest-no (a .m) s (a .digest) taken wide known right holds) (c .refused6 .ensures)
 
 received-requires : tie.Need-received-requires

@@ -1,5 +1,7 @@
 -- `put_row` meets its contract: a row is four fields.
+use mathlib.Core.Path.{_≡_, refl}
 use native.Mathlib.Omega.{arith}
+use Rattle.text.specs.Decimal.{numberText}
 use borrow.Author.Needs.{needs}
 use Rattle.keys.proofs.StoreLaws.{then-put, put-as}
 use Rattle.schedule_text.proofs.FieldLaws.{row-fields}
@@ -27,8 +29,9 @@ returns c =
     let e₁ = c .before .before .before .before .before .before .before .before .before .before .before .before .before .before .put-field .ensures in
     let e₂ = c .before .before .before .before .before .before .before .before .before .before .put-field2 .ensures in
     let e₃ = c .before .before .before .before .before .before .put-field3 .ensures in
-    let e₄ = c .before .before .put-field4 .ensures in (
-      put-as (row-fields (a .generation) (a .number) (a .minted) (a .deadline)) (then-put (then-put (then-put (e₁ .0) (e₂ .0)) (e₃ .0)) (e₄ .0)),
+    let e₄ = c .before .before .put-field4 .ensures in
+    let fourth : numberText (a .deadline) 10 ≡ numberText (a .deadline) 10 = refl in (
+      put-as (row-fields (a .generation) (a .number) (a .minted) (a .deadline)) (then-put (then-put (then-put (e₁ .0) (e₂ .0)) (e₃ .0)) (put-as fourth (e₄ .0))),
       omega (arith, e₁ .1, e₂ .1, e₃ .1, e₄ .1),
     )
 
