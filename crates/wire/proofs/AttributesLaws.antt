@@ -97,6 +97,9 @@ two-be16 (x ∷ y ∷ []) e o =
     rw (s .0, s .1)
 two-be16 (x ∷ y ∷ z ∷ v) e o = absurd (omega arith)
 
+same-four : {a b c d w x y z : ℕ} → w ≡ a → x ≡ b → y ≡ c → z ≡ d → w ∷ x ∷ y ∷ z ∷ [] ≡ a ∷ b ∷ c ∷ d ∷ []
+same-four ea eb ec ed = cc
+
 pub four-be32 : (v : List ℕ) → length v ≡ 4 → Octets v → four (be32 v) ≡ v
 unfolding four be32
 four-be32 [] e o = absurd (omega arith)
@@ -104,16 +107,11 @@ four-be32 (a ∷ []) e o = absurd (omega arith)
 four-be32 (a ∷ b ∷ []) e o = absurd (omega arith)
 four-be32 (a ∷ b ∷ c ∷ []) e o = absurd (omega arith)
 four-be32 (a ∷ b ∷ c ∷ d ∷ []) e o =
-    let n = a * 16777216 + b * 65536 + c * 256 + d in
     let ha : a < 256 = o .0 in
     let hb : b < 256 = o .1 .0 in
     let hc : c < 256 = o .1 .1 .0 in
     let hd : d < 256 = o .1 .1 .1 .0 in
-    let ea : n / 16777216 % 256 ≡ a = omega arith in
-    let eb : n / 65536 % 256 ≡ b = omega arith in
-    let ec : n / 256 % 256 ≡ c = omega arith in
-    let ed : n % 256 ≡ d = omega arith in
-    cc
+    same-four (omega arith) (omega arith) (omega arith) (omega arith)
 four-be32 (a ∷ b ∷ c ∷ d ∷ x ∷ v) e o = absurd (omega arith)
 
 -- ---- attributes as octets and back

@@ -210,7 +210,7 @@ unfolding inOrder valueAt values paramsItems
 pair-order older newer so sn f =
     let o : be32 (four (older .life)) ≡ older .life = be32-four (older .life) (omega (arith, f .older .high)) in
     let n : be32 (four (newer .life)) ≡ newer .life = be32-four (newer .life) (omega (arith, f .newer .high)) in
-    rw (params-items older so, params-items newer sn, o, n, f .next, f .sooner)
+    rw (params-items older so, params-items newer sn, o, n, f .next) (f .sooner)
 
 -- ---- SA-Descriptors
 pub descriptor-items : (d : Descriptor) → items (octets (descriptorItems d)) ≡ descriptorItems d
