@@ -134,8 +134,8 @@ clockedWith c e head records = clockedOf (isDone (c .answer)) c e head records
 pub clock-refused : (e : Ends) (head : HeadEnd) (records : List Assoc) (c d : ModemCalled) (n : ℕ) (r : Applied)
     → r ≡ refusedOf n e → n ≡ answerNumber (c .answer) → c ≡ d → isDone (c .answer) ≡ false → r ≡ clockedWith d e head records
 clock-refused e head records c d n r p q s t =
-    p ∙ ap (λ k. refusedOf k e) q ∙ ap (λ b. cond b (quietModem c head records) (refusedOf (answerNumber (c .answer)) e)) (sym t)
-    ∙ ap (λ (y : ModemCalled). clockedWith y e head records) s
+    let as-before : clockedWith c e head records ≡ refusedOf (answerNumber (c .answer)) e = rw t refl in
+    p ∙ ap (λ k. refusedOf k e) q ∙ sym as-before ∙ ap (λ (y : ModemCalled). clockedWith y e head records) s
 
 pub clock-done : (e : Ends) (head : HeadEnd) (records : List Assoc) (c d : ModemCalled) (r : Applied)
     → r ≡ quietModem c head records → c ≡ d → isDone (c .answer) ≡ true → r ≡ clockedWith d e head records
