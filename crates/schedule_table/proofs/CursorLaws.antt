@@ -135,11 +135,6 @@ fill-stop (suc n) room c e =
     simp full
 
 -- a turn follows
-pub room-left : (n room : ℕ) → (leb 1 n && leb 84 room) ≡ true → (1 ≤ n) × (84 ≤ room)
-room-left n room e =
-    let b = both (leb 1 n) (leb 84 room) e in
-    (leb-true 1 n (b .0), leb-true 84 room (b .1))
-
 pub fill-more : (n room : ℕ) (c : Cursor) → 1 ≤ n → 84 ≤ room → fillFor n room c
     ≡ partWhen true (newerRow (nextOf c)) (fillFor (n - 1) (room - length (newerRow (nextOf c))) (nextOf c)) c
 unfolding fillFor
@@ -204,13 +199,12 @@ filling-next lent c₀ out c at end after f more room p short =
 
 -- the same of a cursor that a call answered
 pub filling-as : (lent : List ℕ) (c₀ : Cursor) (out : List ℕ) (c next : Cursor) (at end : ℕ) (after : List ℕ) → Filling lent c₀ out c at → next ≡ nextOf c
-    → (leb 1 (c .left) && leb 84 (length out - at)) ≡ true → Put out at (newerRow next) end after → end ≤ at + 84 → Filling lent c₀ after next end
-filling-as lent c₀ out c next at end after f e t p short =
-    let b = room-left (c .left) (length out - at) t in
+    → 1 ≤ c .left → 84 ≤ length out - at → Put out at (newerRow next) end after → end ≤ at + 84 → Filling lent c₀ after next end
+filling-as lent c₀ out c next at end after f e more wide p short =
     subst
     (λ (k : Cursor). Put out at (newerRow k) end after → Filling lent c₀ after k end)
     (sym e)
-    (λ (q : Put out at (newerRow (nextOf c)) end after). filling-next lent c₀ out c at end after f (b .0) (b .1) q short)
+    (λ (q : Put out at (newerRow (nextOf c)) end after). filling-next lent c₀ out c at end after f more wide q short)
     p
 
 -- no turn follows

@@ -1,14 +1,25 @@
 -- `fill` meets its contract. The invariant is `Filling`; the measure is the number of clock calls left.
-use Prim.Native.Nat.{_-_, _≤_, _<_}
+use Prim.Native.Nat.{ℕ, _-_, _≤_, _<_}
 use mathlib.Core.Path.{_≡_, ap}
+use mathlib.Core.Bool.{Bool, true, false, _&&_}
+use lib.Dec.{leb}
+use borrow.Author.Tests.{leb-true}
+use Rattle.questions.proofs.TestLaws.{both}
 use native.Mathlib.Omega.{arith}
 use lib.ListN.{length}
 use denote.Ref.{now}
 use Rattle.schedule_table.specs.declared.print.Cursor.{Cursor}
 use Rattle.schedule_table.specs.Print.{nextOf}
-use Rattle.schedule_table.proofs.CursorLaws.{Filling, filling-first, filling-as, filled-count, filled-cursor, filled-stored, room-left}
+use Rattle.schedule_table.proofs.CursorLaws.{Filling, filling-first, filling-as, filled-count, filled-cursor, filled-stored}
 use Rattle.schedule_table.proofs.print.fill.Statement.{statement}
 use Rattle.schedule_table.proofs.print.fill.Tie as tie
+
+-- what the loop's test tells, whatever numbers it compares with
+calls-left : (k n : ℕ) (b : Bool) → (leb k n && b) ≡ true → k ≤ n
+calls-left k n b e = leb-true k n (both (leb k n) b e .0)
+
+room : (b : Bool) (k n : ℕ) → (b && leb k n) ≡ true → k ≤ n
+room b k n e = leb-true k n (both b (leb k n) e .1)
 
 less : (c n : Cursor) → 1 ≤ c .left → n ≡ nextOf c → n .left < c .left
 unfolding nextOf
@@ -27,18 +38,17 @@ sub-if1 : tie.Need-sub-if1 Inv-loop μ-loop
 sub-if1 c = omega (arith, c .before .loop .inv .inside, c .before .loop .inv .same)
 
 next-cursor-requires : tie.Need-next-cursor-requires Inv-loop μ-loop
-next-cursor-requires c κs =
-    let l = c .before .before .loop in (l .inv .steady, room-left (l .cursor .left) (length (l .out) - l .at) (c .if1 .taken) .0)
+next-cursor-requires c κs = (c .before .before .loop .inv .steady, omega (arith, calls-left))
 
 put-newer-requires : tie.Need-put-newer-requires Inv-loop μ-loop
-put-newer-requires c κs =
-    let l = c .before .before .before .before .loop in omega (arith, room-left (l .cursor .left) (length (l .out) - l .at) (c .before .before .if1 .taken) .1)
+put-newer-requires c κs = omega (arith, room)
 
 loop-less : tie.Need-loop-less Inv-loop μ-loop
 loop-less c =
     let l = c .before .before .before .before .before .before .before .loop in
     let n = c .before .before .before .before .next-cursor in
-    less (l .cursor) (n .result) (room-left (l .cursor .left) (length (l .out) - l .at) (c .before .before .before .before .before .if1 .taken) .0) (n .ensures)
+    let more : 1 ≤ l .cursor .left = omega (arith, calls-left) in
+    less (l .cursor) (n .result) more (n .ensures)
 
 loop-again : tie.Need-loop-again Inv-loop μ-loop
 loop-again c =
@@ -46,7 +56,9 @@ loop-again c =
     let l = c .before .before .before .before .before .before .before .loop in
     let n = c .before .before .before .before .next-cursor in
     let p = c .before .before .put-newer in
-    filling-as (now (a .out)) (a .c) (l .out) (l .cursor) (n .result) (l .at) (p .result) (p .last .0) (l .inv) (n .ensures) (c .before .before .before .before .before .if1 .taken) (p .ensures .0) (p .ensures .1)
+    let more : 1 ≤ l .cursor .left = omega (arith, calls-left) in
+    let wide : 84 ≤ length (l .out) - l .at = omega (arith, room) in
+    filling-as (now (a .out)) (a .c) (l .out) (l .cursor) (n .result) (l .at) (p .result) (p .last .0) (l .inv) (n .ensures) more wide (p .ensures .0) (p .ensures .1)
 
 same-length : tie.Need-same-length Inv-loop μ-loop
 same-length c = c .before .before .loop .inv .same
@@ -56,9 +68,10 @@ returns c =
     let d = now (c .before .before .before .before .args .out) in
     let c₀ = c .before .before .before .before .args .c in
     let l = c .before .before .loop in
-    let count = filled-count d c₀ (l .out) (l .cursor) (l .at) (l .inv) (c .if1 .left) in
-    let cursor = filled-cursor d c₀ (l .out) (l .cursor) (l .at) (l .inv) (c .if1 .left) in
-    (cc, (filled-stored d c₀ (l .out) (l .cursor) (l .at) (l .inv) (c .if1 .left), (l .inv .inside, l .inv .steady)))
+    let ended : (leb 1 (l .cursor .left) && leb 84 (length (l .out) - l .at)) ≡ false = c .if1 .left in
+    let count = filled-count d c₀ (l .out) (l .cursor) (l .at) (l .inv) ended in
+    let cursor = filled-cursor d c₀ (l .out) (l .cursor) (l .at) (l .inv) ended in
+    (cc, (filled-stored d c₀ (l .out) (l .cursor) (l .at) (l .inv) ended, (l .inv .inside, l .inv .steady)))
 
 pub fill-spec : {M : Type 1} → statement M
 fill-spec =
