@@ -1,11 +1,11 @@
 -- `for_c::receiver::receiver` meets its contract.
 use Rattle.for_c.proofs.ReadLaws.{not-head-end}
-use borrow.Author.Needs.{needs}
+use mathlib.Core.Path.{refl}
 use Rattle.for_c.proofs.receiver.receiver.Statement.{statement}
 use Rattle.for_c.proofs.receiver.receiver.Tie as tie
 
 returns : tie.Need-returns
-returns c = search needs
+returns c = rw (c .if1 .taken) refl
 
 returns-2 : tie.Need-returns-2
 returns-2 c = not-head-end (c .before .args .end) (c .if1 .left)

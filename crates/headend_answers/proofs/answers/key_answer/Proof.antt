@@ -1,5 +1,6 @@
 -- `headend_answers::answers::key_answer` meets its contract.
-use mathlib.Core.Path.{sym, _∙_}
+use mathlib.Core.Path.{_≡_, sym, _∙_}
+use Rattle.answer_fields.specs.AnswerFields.{invalid}
 use borrow.Author.Tests.{not-true, not-false}
 use Rattle.headend_answers.proofs.AnswersLaws.{key-unlisted, key-inactive, key-digest, key-foreign, key-granted}
 use borrow.Author.Needs.{needs}
@@ -23,7 +24,8 @@ error-answer-requires-2 c κs = search needs
 returns-2 : tie.Need-returns-2
 returns-2 c =
     let x = c .before .before .before .before .before .before .before .before .args in
-    c .error-answer2 .ensures ∙ sym (key-inactive (x .clock) (x .k) (x .a) (x .digest) (x .f) (not-false _ (c .before .before .before .if1 .left)) (sym (c .before .before .is-active .ensures) ∙ not-true _ (c .before .if2 .taken)))
+    let sent : c .error-answer2 .result ≡ invalid (x .f .identifier) 4 = c .error-answer2 .ensures in
+    sent ∙ sym (key-inactive (x .clock) (x .k) (x .a) (x .digest) (x .f) (not-false _ (c .before .before .before .if1 .left)) (sym (c .before .before .is-active .ensures) ∙ not-true _ (c .before .if2 .taken)))
 
 error-answer-requires-3 : tie.Need-error-answer-requires-3
 error-answer-requires-3 c κs = search needs

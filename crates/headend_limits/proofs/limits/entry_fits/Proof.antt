@@ -1,5 +1,6 @@
 -- `headend_limits::limits::entry_fits` meets its contract.
 use Rattle.headend_limits.specs.Limits.{entryFits}
+use mathlib.Core.Path.{refl}
 use borrow.Author.Needs.{needs}
 use Rattle.headend_limits.proofs.limits.entry_fits.Statement.{statement}
 use Rattle.headend_limits.proofs.limits.entry_fits.Tie as tie
@@ -18,7 +19,7 @@ auth-keys-fit-requires c κs = search needs
 
 returns : tie.Need-returns
 unfolding entryFits
-returns c = cc
+returns c = simp (c .auth-keys-fit .ensures, c .before .saids-differ .ensures, c .before .before .listing-fits .ensures, c .before .before .before .before .address-fits .ensures) refl
 
 pub entry-fits-spec : {M : Type 1} → statement M
 entry-fits-spec =

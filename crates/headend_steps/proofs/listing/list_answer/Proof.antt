@@ -1,5 +1,8 @@
 -- `headend_steps::listing::list_answer` meets its contract.
 use Rattle.headend_steps.specs.Listing.{listQuestions, listAnswer}
+use mathlib.Core.Path.{_≡_}
+use Rattle.headend_limits.specs.Limits.{allApart}
+use Rattle.headend_state.specs.Entries.{entriesOf}
 use borrow.Author.Needs.{needs}
 use Rattle.headend_steps.proofs.listing.list_answer.Statement.{statement}
 use Rattle.headend_steps.proofs.listing.list_answer.Tie as tie
@@ -45,7 +48,10 @@ ask-requires-4 c κs = search needs
 
 returns : tie.Need-returns
 unfolding listAnswer listQuestions
-returns c = simp (c .ask4 .ensures, c .before .ask3 .ensures, c .before .before .ask2 .ensures, c .before .before .before .ask .ensures, c .before .before .before .before .saids-differ .ensures, c .before .before .before .before .before .all-apart .ensures, c .before .before .before .before .before .before .has-room2 .ensures, c .before .before .before .before .before .before .before .has-room .ensures, c .before .before .before .before .before .before .before .before .before .is-material .ensures, c .before .before .before .before .before .before .before .before .before .before .listing-fits .ensures, c .before .before .before .before .before .before .before .before .before .before .before .address-fits .ensures, c .before .before .before .before .before .before .before .before .before .before .before .before .records-fit .ensures, c .before .before .before .before .before .before .before .before .before .before .before .before .before .head-fits .ensures)
+returns c =
+    let x = c .before .before .before .before .before .before .before .before .before .before .before .before .before .before .before .args in
+    let apart : c .before .before .before .before .before .all-apart .result ≡ allApart (x .address) (x .l) (entriesOf (x .h)) = c .before .before .before .before .before .all-apart .ensures in
+    simp (c .ask4 .ensures, c .before .ask3 .ensures, c .before .before .ask2 .ensures, c .before .before .before .ask .ensures, c .before .before .before .before .saids-differ .ensures, apart, c .before .before .before .before .before .before .has-room2 .ensures, c .before .before .before .before .before .before .before .has-room .ensures, c .before .before .before .before .before .before .before .before .before .is-material .ensures, c .before .before .before .before .before .before .before .before .before .before .listing-fits .ensures, c .before .before .before .before .before .before .before .before .before .before .before .address-fits .ensures, c .before .before .before .before .before .before .before .before .before .before .before .before .records-fit .ensures, c .before .before .before .before .before .before .before .before .before .before .before .before .before .head-fits .ensures)
 
 pub list-answer-spec : {M : Type 1} → statement M
 list-answer-spec =
