@@ -54,12 +54,13 @@ steppedFrom r =
 
 -- ---- document 01's number and values of each case
 
--- Question 8 asks whether each attribute ends inside its holder: a cut is its refusal
+-- Question 8 asks whether each attribute ends inside its holder: a cut does not. An attribute does, and at the end there is none to ask of
 abbrev pub nextNumber : Next → ℕ
 nextNumber (Attr k start n) = 0
 nextNumber Cut = numberOf BadAttribute
 nextNumber End = 0
 
+-- What document 01 says of an attribute: its type and its value
 pub record TypeAndValue : Type 0 where
   pub kind : ℕ
   pub value : List ℕ
@@ -67,7 +68,7 @@ pub record TypeAndValue : Type 0 where
 abbrev pub typeAndValue : ℕ → List ℕ → TypeAndValue
 typeAndValue k v = record { kind = k; value = v }
 
--- Of the holder s: an attribute has its type and its value, the n octets from start on
+-- An attribute has its type, and as its value the n octets of the holder s from start on; a cut and the end have none
 abbrev pub nextValues : List ℕ → Next → Option TypeAndValue
 nextValues s (Attr k start n) = some (typeAndValue k (take n (drop start s)))
 nextValues s Cut = none

@@ -30,15 +30,20 @@ overAfter Cut over = true
 overAfter End over = true
 
 -- ---- the inside s of a compound of type h
+
+-- What the pass has so far, in the form that it hands out
 abbrev pub insideOf : InsideSoFar → Inside
 insideOf r = insideRecord (r .sound) (r .first ∷ r .second ∷ r .third ∷ r .fourth ∷ [])
 
+-- An attribute is entered; a cut is question 8's no; at the end nothing changes
 abbrev pub insideAfter : ℕ → List ℕ → Next → Inside → Inside
 insideAfter h s (Attr k start n) r = insideTurn h start k (take n (drop start s)) r
 insideAfter h s Cut r = insideRecord (isAccepted Cut) (r .slots)
 insideAfter h s End r = r
 
 -- ---- message m of code h
+
+-- What the pass has so far, in the form that it hands out
 abbrev pub bodyOf : BodySoFar → Body
 bodyOf r =
     bodyRecord (r .sound) (r .last)
@@ -46,14 +51,16 @@ bodyOf r =
     (r .count)
     (r .first ∷ r .second ∷ r .third ∷ r .fourth ∷ [])
 
+-- The last attribute is of type k
 abbrev pub lastIs : ℕ → Body → Body
 lastIs k r = bodyRecord (r .sound) k (r .slots) (r .count) (r .compounds)
 
--- with one of the first four compounds
+-- One of the first four compounds has its value at a place
 abbrev pub keptAt : ℕ → ℕ → Body → Body
 keptAt start n r =
     bodyRecord (r .sound) (r .last) (r .slots) (r .count + 1) (set (r .compounds) (r .count) (record { start = start; len = n }))
 
+-- An attribute is entered; a cut is question 8's no, and there is no last type; at the end nothing changes
 abbrev pub bodyAfter : ℕ → List ℕ → Next → Body → Body
 bodyAfter h m (Attr k start n) r = bodyTurn h start k (take n (drop start m)) r
 bodyAfter h m Cut r = bodyRecord (isAccepted Cut) 256 (r .slots) (r .count) (r .compounds)
