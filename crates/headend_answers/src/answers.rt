@@ -94,19 +94,22 @@ pub fn react(h: HeadEnd, k: Known, a: Assoc, digest: bool, f: Fields) -> Reactio
     requires { ⌜ ReactionFits h k ⌝ }
     ensures { λ r. ⌜ r ≡ reactionOf h k a digest f ⌝ }
 {
-    if f.code == 4 {
-        return request_reaction(h, k, f.identifier);
-    }
-    if f.code == 7 {
-        let answer = key_answer(h.clock, k, a, digest, f);
-        return Reaction {
-            state: h,
-            answer: answer,
-        };
-    }
-    let none = error_answer(0, 0, AkNumber(0), 0, 0);
-    Reaction {
-        state: h,
-        answer: none,
+    let code = f.code;
+    match code {
+        4 => request_reaction(h, k, f.identifier),
+        7 => {
+            let answer = key_answer(h.clock, k, a, digest, f);
+            Reaction {
+                state: h,
+                answer: answer,
+            }
+        }
+        _ => {
+            let none = error_answer(0, 0, AkNumber(0), 0, 0);
+            Reaction {
+                state: h,
+                answer: none,
+            }
+        }
     }
 }

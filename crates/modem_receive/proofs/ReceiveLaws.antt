@@ -1,7 +1,7 @@
 -- Laws of what the modem asks of a message's fields, by its code, and of what a message that is taken does.
 use mathlib.Core.Path.{_≡_, refl, _∙_, ap}
 use mathlib.Core.Bool.{Bool, true, false, _&&_, _||_, not, cond}
-use Prim.Native.Nat.{ℕ, _≤_, _<_}
+use Prim.Native.Nat.{ℕ, _+_, _≤_, _<_}
 use native.Mathlib.Omega.{arith}
 use lib.Dec.{eqb, ltb}
 use borrow.Author.Tests.{ltb-true, le-ltb, lt-ltb, ne-eqb, eq-eqb, eqb-true, eqb-false}
@@ -14,6 +14,20 @@ use Rattle.modem_steps.specs.Slots.{told, toldReply, slotOfSaid, isWaiting, slo
 use Rattle.modem_reply.specs.Replied.{replied}
 use Rattle.modem_events.specs.Events.{rejected, invalidated}
 use Rattle.modem_receive.specs.Receive.{isKnown, paramsWide, widthsFit, saidKnown, authWaits, tekWaits, identifierFits, received}
+
+-- two codes that share an arm, as a range tells them
+pub in-range : (a c : ℕ) → a ≤ c → c < a + 2 → (eqb c a || eqb c (a + 1)) ≡ true
+in-range a c low high = go (eqb c a) refl
+  where
+    go : (b : Bool) → eqb c a ≡ b → (b || eqb c (a + 1)) ≡ true
+    go true e = refl
+    go false e = eq-eqb c (a + 1) (omega (arith, low, high, eqb-false c a e))
+
+pub below-range : (a c : ℕ) → c < a → (eqb c a || eqb c (a + 1)) ≡ false
+below-range a c low = rw (ne-eqb c a (λ e. omega (arith, e, low)), ne-eqb c (a + 1) (λ e. omega (arith, e, low)))
+
+pub above-range : (a c : ℕ) → a + 2 ≤ c → (eqb c a || eqb c (a + 1)) ≡ false
+above-range a c high = rw (ne-eqb c a (λ e. omega (arith, e, high)), ne-eqb c (a + 1) (λ e. omega (arith, e, high)))
 
 asked : (a b k : Bool) → a ≡ true → (not (a || b) || k) ≡ true → k ≡ true
 asked true b k p e = e

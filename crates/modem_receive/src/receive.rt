@@ -21,7 +21,10 @@ use wire::fields::Params;
 fn is_of_said(code: u8) -> bool
     ensures { λ r. ⌜ r ≡ ofSaid code ⌝ }
 {
-    (code == 8) | (code == 9) | (code == 11)
+    match code {
+        8..=9 | 11 => true,
+        _ => false,
+    }
 }
 
 fn are_wide(w: usize, p: Params) -> bool
@@ -70,18 +73,16 @@ pub fn identifier_fits(m: Modem, f: Fields) -> bool
     ensures { λ r. ⌜ r ≡ identifierFits m f ⌝ }
 {
     let code = f.code;
-    if (code == 5) | (code == 6) {
-        return is_auth_waiting(m, f.identifier);
+    match code {
+        5..=6 => is_auth_waiting(m, f.identifier),
+        8..=9 => {
+            let i = slot_of_said(m, f.said);
+            let t = m.teks[i];
+            is_waiting(t) & (t.identifier == f.identifier)
+        }
+        10 => (f.identifier == 0) | (slot_asking(m, f.identifier) < 4),
+        _ => f.identifier == 0,
     }
-    if (code == 8) | (code == 9) {
-        let i = slot_of_said(m, f.said);
-        let t = m.teks[i];
-        return is_waiting(t) & (t.identifier == f.identifier);
-    }
-    if code == 10 {
-        return (f.identifier == 0) | (slot_asking(m, f.identifier) < 4);
-    }
-    f.identifier == 0
 }
 
 // Question 12.
@@ -97,23 +98,17 @@ pub fn received(m: Modem, f: Fields) -> Work
     ensures { λ r. ⌜ r ≡ received m f ⌝ }
 {
     let code = f.code;
-    if code == 5 {
-        return replied(m, f);
-    }
-    if code == 6 {
-        return rejected(m, f.error);
-    }
     let i = slot_of_said(m, f.said);
-    if code == 8 {
-        let older = f.older;
-        let newer = f.newer;
-        return start(m).told_reply(i, 8, older, newer);
+    match code {
+        5 => replied(m, f),
+        6 => rejected(m, f.error),
+        8 => {
+            let older = f.older;
+            let newer = f.newer;
+            start(m).told_reply(i, 8, older, newer)
+        }
+        9 => start(m).told(i, 9),
+        10 => invalidated(m, f.identifier),
+        _ => start(m).told(i, 5),
     }
-    if code == 9 {
-        return start(m).told(i, 9);
-    }
-    if code == 10 {
-        return invalidated(m, f.identifier);
-    }
-    start(m).told(i, 5)
 }
