@@ -13,9 +13,9 @@ use Rattle.keys.specs.Octets.{overlay}
 use Rattle.questions.specs.Refusal.{answerNumber}
 use Rattle.wire.specs.declared.fields.Receiver.the-variants.{Modem}
 use Rattle.wire.specs.declared.fields.Reading.{Reading}
-use Rattle.wire.specs.Messages.{messageAnswer}
-use Rattle.wire.specs.Reading.{readOf}
-use Rattle.wire.proofs.MessageAnswers.{read-answer}
+use Rattle.wire.specs.Messages.{readerAnswer}
+use Rattle.wire.specs.Reading.{readerOf}
+use Rattle.wire.proofs.MessageAnswers.{reader-answer}
 use Rattle.keys.specs.Put.{Put}
 use Rattle.keys.proofs.StoreLaws.{put-whole}
 use Rattle.questions.proofs.AnswerLaws.{refusal-number}
@@ -35,6 +35,12 @@ module _ (octets d : List ℕ) where
   call-done Done n e z after h = record { answers = refl; holds = h }
   call-done (Refused r) n e z after h = absurd (refusal-number r (sym e ∙ z))
 
+-- where the end is one of the two and the slice is long enough, the call is the reader's
+pub read-asked : (end : ℕ) (s : List ℕ) (lent : ℕ) → leb end 1 ≡ true → leb 117 lent ≡ true
+    → readCallOf end s lent ≡ callFor (readerAnswer (receiverAt end) s) (readingOctets (readerOf (receiverAt end) s))
+unfolding readCallOf readQuestions readerAnswer
+read-asked end s lent q₁ q₂ = simp (q₁, q₂)
+
 module _ (end : ℕ) (s d : List ℕ) where
   pub end-refused : leb end 1 ≡ false → Answers (readCallOf end s (length d)) d 1 d
   unfolding readCallOf readQuestions
@@ -46,22 +52,18 @@ module _ (end : ℕ) (s d : List ℕ) where
     slice-refused q₂ = simp (q₁, q₂) (record { answers = refl; holds = refl })
 
     module _ (q₂ : leb 117 (length d) ≡ true) where
-      asked : readCallOf end s (length d) ≡ callFor (messageAnswer (receiverAt end) s) (readingOctets (readOf (receiverAt end) s))
-      unfolding readCallOf readQuestions messageAnswer
-      asked = simp (q₁, q₂)
-
-      module _ (r : Reading) (is : r ≡ readOf (receiverAt end) s) (n : ℕ) (number : n ≡ answerNumber (r .answer)) where
-        answered : n ≡ answerNumber (messageAnswer (receiverAt end) s)
-        answered = number ∙ ap (λ (x : Reading). answerNumber (x .answer)) is ∙ ap answerNumber (read-answer (receiverAt end) s)
+      module _ (r : Reading) (is : r ≡ readerOf (receiverAt end) s) (n : ℕ) (number : n ≡ answerNumber (r .answer)) where
+        answered : n ≡ answerNumber (readerAnswer (receiverAt end) s)
+        answered = number ∙ ap (λ (x : Reading). answerNumber (x .answer)) is ∙ ap answerNumber (reader-answer (receiverAt end) s)
 
         pub message-refused : (n ≡ 0 → ⊥) → Answers (readCallOf end s (length d)) d n d
         message-refused h =
-            subst (λ (c : Call). Answers c d n d) (sym asked)
-            (call-refused (readingOctets (readOf (receiverAt end) s)) d (messageAnswer (receiverAt end) s) n answered h)
+            subst (λ (c : Call). Answers c d n d) (sym (read-asked end s (length d) q₁ q₂))
+            (call-refused (readingOctets (readerOf (receiverAt end) s)) d (readerAnswer (receiverAt end) s) n answered h)
 
         pub message-read : n ≡ 0 → {k : ℕ} {after : List ℕ} → Put d 0 (readingOctets r) k after → k ≡ 117 → Answers (readCallOf end s (length d)) d 0 after
         message-read z {k} {after} p all =
             let fits : length (readingOctets r) ≤ length d = omega (arith, p .after, all, leb-true 117 (length d) q₂) in
-            subst (λ (c : Call). Answers c d 0 after) (sym asked)
-            (call-done (readingOctets (readOf (receiverAt end) s)) d (messageAnswer (receiverAt end) s) n answered z after
+            subst (λ (c : Call). Answers c d 0 after) (sym (read-asked end s (length d) q₁ q₂))
+            (call-done (readingOctets (readerOf (receiverAt end) s)) d (readerAnswer (receiverAt end) s) n answered z after
             (put-whole p fits ∙ ap (λ (x : Reading). overlay d (readingOctets x)) is))

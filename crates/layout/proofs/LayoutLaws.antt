@@ -1,5 +1,5 @@
 -- Laws of the fields in octets (`specs/Layout.antt`): what is put there is read back as it was.
-use Prim.Native.Nat.{ℕ, _+_, _<_}
+use Prim.Native.Nat.{ℕ, _<_}
 use mathlib.Core.Path.{_≡_, refl, sym, ap, _∙_}
 use mathlib.Core.List.{List, [], _∷_, _++_, append-assoc}
 use native.Mathlib.Omega.{arith}
@@ -66,6 +66,11 @@ length-params p s = simp (length-append, length-key (p .tek) (s .tek), length-ke
 length-descriptors : (ds : List Descriptor) → length ds ≡ 4 → length (descriptorsLaid ds) ≡ 20
 unfolding descriptorsLaid descriptorLaid two
 length-descriptors ds h = of-four (λ (l : List Descriptor). length (descriptorsLaid l) ≡ 20) (λ a b c d. refl) ds h
+
+pub length-fields : (f : Fields) → Shaped f → length (fieldsOctets f) ≡ 109
+unfolding fieldsOctets headLaid two four
+length-fields f s =
+    simp (length-append, length-descriptors (f .descriptors) (s .descriptors), length-params (f .older) (s .older), length-params (f .newer) (s .newer))
 
 -- ---- a part of the fields and back
 key-as : (k : KeyOctets) {w : ℕ} {o : List ℕ} → w ≡ k .width → o ≡ k .octets → _≡_ {A = KeyOctets} (record { width = w; octets = o }) k

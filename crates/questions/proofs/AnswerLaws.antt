@@ -1,7 +1,7 @@
 -- What an answer says of the questions of a call, over any list of them; and the numbers of answers.
 use Prim.Native.Nat.{ℕ, zero, suc}
 use mathlib.Core.Path.{_≡_, refl, ap}
-use mathlib.Core.List.{List, [], _∷_}
+use mathlib.Core.List.{List, [], _∷_, _++_}
 use mathlib.Core.Bool.{Bool, true, false, cond}
 use native.Mathlib.Omega.{arith}
 use Rattle.questions.specs.declared.refusal.Refusal.{Refusal}
@@ -9,7 +9,7 @@ use Rattle.questions.specs.declared.refusal.Answer.{Answer}
 use Rattle.questions.specs.declared.refusal.Answer.the-variants.{Done, Refused}
 use Rattle.questions.specs.declared.refusal.Refusal.the-variants.{OutOfLimits, WrongLength, ClockOutOfOrder, NoFreePlace, NotNew, CutMessage, CodeNotReceived, BadAttribute, WrongAttributes, UnknownSaid, WrongIdentifier, DigestFails, NoKeyForFrame, NoKeyToSeal}
 use Rattle.questions.specs.Refusal.{numberOf, answerNumber, isDone}
-use Rattle.questions.specs.Questions.{Question, firstNo}
+use Rattle.questions.specs.Questions.{Question, firstNo, answerThen}
 
 -- Every question is met
 abbrev pub AllMet : List Question → Type 0
@@ -49,6 +49,16 @@ refused-no r (q ∷ qs) e = go (q .met) refl e (λ d. refused-no r qs d)
         → (n : ℕ) × NoAt n r (q ∷ qs)
     go true m e ih = let f = ih e in (suc (f .0), (m, f .1))
     go false m e ih = let same : q .refusal ≡ r = cc in (zero, (m, same))
+
+-- questions after others
+pub first-append : (qs rs : List Question) → firstNo (qs ++ rs) ≡ answerThen (firstNo qs) (firstNo rs)
+first-append [] rs = refl
+first-append (q ∷ qs) rs = go (q .met) (first-append qs rs)
+  where
+    go : (b : Bool) → firstNo (qs ++ rs) ≡ answerThen (firstNo qs) (firstNo rs)
+        → cond b (firstNo (qs ++ rs)) (Refused (q .refusal)) ≡ answerThen (cond b (firstNo qs) (Refused (q .refusal))) (firstNo rs)
+    go true ih = ih
+    go false ih = refl
 
 -- ---- done, or not
 pub is-done : (a : Answer) → isDone a ≡ true → a ≡ Done

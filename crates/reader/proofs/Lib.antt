@@ -4,3 +4,4 @@ pub mod SoundLaws
 pub mod ToldLaws
 pub mod TakenLaws
 pub mod ReadLaws
+pub mod AloneLaws

@@ -1,9 +1,9 @@
-// The reading of a message: questions 6 to 9 in their order, then the fields (document 01, Messages).
+// The reading of a message: questions 6 to 9 in their order, then the fields (document 01, Messages); and the reader by itself.
 ghost use mathlib.Core.Path.{_≡_};
 ghost use Prim.Native.Nat.{_≤_};
 ghost use Rattle.wire.specs.declared.fields.Receiver.the-variants.{HeadEnd, Modem};
-ghost use Rattle.wire.specs.Messages.{lengthOf, isWhole, receives};
-ghost use Rattle.wire.specs.Reading.{readOf};
+ghost use Rattle.wire.specs.Messages.{lengthOf, isWhole, receives, identifierTold};
+ghost use Rattle.wire.specs.Reading.{readOf, readerOf};
 ghost use Rattle.reader.specs.Taken.{toldIn, takenFrom, refusedReading};
 use attributes::octets::be16_of;
 use attributes::octets::be32_of;
@@ -16,6 +16,7 @@ use holders::pass::pass_body;
 use key_numbers::numbers::AkNumber;
 use questions::refusal::Answer;
 use questions::refusal::Refusal;
+use questions::refusal::is_done;
 use wire::fields::Fields;
 use wire::fields::Place;
 use wire::fields::Reading;
@@ -151,6 +152,7 @@ fn taken(m: &[u8], b: Body, k: Compounds) -> Reading
     }
 }
 
+// The reading inside an end, which asks 10 to 12 after it.
 pub fn read(e: Receiver, s: &[u8]) -> Reading
     ensures { λ r. ⌜ r ≡ readOf e (now (s .entry)) ⌝ }
 {
@@ -179,4 +181,27 @@ pub fn read(e: Receiver, s: &[u8]) -> Reading
         return refused(Refusal::WrongAttributes);
     }
     taken(m, b, k)
+}
+
+// The half of question 11 that needs no end's state.
+fn is_identifier_told(c: u8, identifier: u8) -> bool
+    ensures { λ r. ⌜ r ≡ identifierTold c identifier ⌝ }
+{
+    !((c == 11) | (c == 12)) | (identifier == 0)
+}
+
+// The reader by itself: questions 6 to 9, then that half of 11.
+pub fn read_alone(e: Receiver, s: &[u8]) -> Reading
+    ensures { λ r. ⌜ r ≡ readerOf e (now (s .entry)) ⌝ }
+{
+    let r = read(e, s);
+    let answer = r.answer;
+    let f = r.fields;
+    if !is_done(answer) {
+        return r;
+    }
+    if !is_identifier_told(f.code, f.identifier) {
+        return refused(Refusal::WrongIdentifier);
+    }
+    r
 }

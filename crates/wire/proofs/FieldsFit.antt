@@ -9,6 +9,7 @@ use borrow.Author.Tests.{leb-true}
 use Rattle.questions.proofs.TestLaws.{both}
 use Rattle.wire.specs.declared.fields.Fields.{Fields}
 use Rattle.wire.specs.Ranges.{needs}
+use Rattle.wire.specs.Messages.{identifierTold}
 use Rattle.wire.specs.Limits.{carriedOr, headFits, placeFit, descriptorsFit, descriptorsZero, pairFit, paramsZero, fieldsFit, authKeyFits}
 use Rattle.wire.proofs.HoldsLaws.{never}
 use Rattle.wire.proofs.PartsWritten.{ShapedParams, PairFit, pair-fit}
@@ -25,6 +26,7 @@ pub record Shaped (f : Fields) : Type 0 where
 pub record Fit (f : Fields) (auth : List ℕ) : Type 0 where
   pub low : 4 ≤ f .code
   pub high : f .code ≤ 12
+  pub told : identifierTold (f .code) (f .identifier) ≡ true
   pub ak : carriedOr (needs (f .code) 10) (leb (f .ak .0) 15) (eqb (f .ak .0) 0) ≡ true
   pub said : carriedOr (needs (f .code) 12) (leb (f .said) 16383) (eqb (f .said) 0) ≡ true
   pub life : carriedOr (needs (f .code) 9) (leb 1 (f .life) && leb (f .life) 12096000) (eqb (f .life) 0) ≡ true
@@ -54,11 +56,12 @@ fit f key e k =
     let e3 = both (h && a && s) l (e4 .0) in
     let e2 = both (h && a) s (e3 .0) in
     let e1 = both h a (e2 .0) in
-    let h2 = both (leb 4 c && leb c 12) (not (eqb c 11 || eqb c 12) || eqb (f .identifier) 0) (e1 .0) in
+    let h2 = both (leb 4 c && leb c 12) (identifierTold c (f .identifier)) (e1 .0) in
     let h1 = both (leb 4 c) (leb c 12) (h2 .0) in
     record {
       low = leb-true 4 c (h1 .0);
       high = leb-true c 12 (h1 .1);
+      told = h2 .1;
       ak = e1 .1;
       said = e2 .1;
       life = e3 .1;

@@ -1,19 +1,20 @@
--- Each answer to a message, and exactly what it says of questions 6 to 9; a reading has that answer.
+-- Each answer to a message, and exactly what it says of questions 6 to 9, and of 11 where the reader is by itself; a reading has that answer.
 use Prim.Native.Nat.{ℕ, zero, suc, _+_}
-use mathlib.Core.Path.{_≡_, refl, sym, ap, subst}
-use mathlib.Core.Bool.{true, false}
-use mathlib.Core.List.{List}
+use mathlib.Core.Path.{_≡_, refl, sym, ap, _∙_, subst}
+use mathlib.Core.Bool.{Bool, true, false, cond}
+use mathlib.Core.List.{List, [], _∷_}
 use mathlib.Core.Logic.{_↔_}
 use native.Mathlib.Omega.{arith}
 use Rattle.questions.specs.declared.refusal.Refusal.{Refusal}
-use Rattle.questions.specs.declared.refusal.Refusal.the-variants.{CutMessage, CodeNotReceived, BadAttribute, WrongAttributes}
+use Rattle.questions.specs.declared.refusal.Refusal.the-variants.{CutMessage, CodeNotReceived, BadAttribute, WrongAttributes, WrongIdentifier}
 use Rattle.questions.specs.declared.refusal.Answer.{Answer}
 use Rattle.questions.specs.declared.refusal.Answer.the-variants.{Done, Refused}
 use Rattle.questions.specs.Refusal.{numberOf}
 use Rattle.wire.specs.declared.fields.Receiver.{Receiver}
-use Rattle.wire.specs.Messages.{isWhole, question7, question8, question9, messageQuestions, messageAnswer}
-use Rattle.wire.specs.Reading.{takenOf, readingFor, readOf}
-use Rattle.questions.proofs.AnswerLaws.{NoAt, met-done, done-met, no-refused, refused-no}
+use Rattle.wire.specs.Messages.{codeOf, identifierOf, isWhole, question7, question8, question9, messageQuestions, messageAnswer, identifierTold, readerQuestions, readerAnswer}
+use Rattle.wire.specs.Reading.{takenOf, readingFor, readOf, readerOf}
+use Rattle.questions.specs.Questions.{answerThen}
+use Rattle.questions.proofs.AnswerLaws.{NoAt, met-done, done-met, no-refused, refused-no, first-append}
 
 module _ (e : Receiver) (s : List ℕ) where
   -- the first no stands at the place that its number tells
@@ -68,3 +69,58 @@ module _ (e : Receiver) (s : List ℕ) where
       go : (a : Answer) → readingFor a s .answer ≡ a
       go Done = refl
       go (Refused r) = refl
+
+  -- ---- the reader by itself
+  abbrev told : Bool
+  told = identifierTold (codeOf s) (identifierOf s)
+
+  reader-split : readerAnswer e s ≡ answerThen (messageAnswer e s) (cond told Done (Refused WrongIdentifier))
+  unfolding readerAnswer readerQuestions messageAnswer
+  reader-split = first-append (messageQuestions e s) (record { refusal = WrongIdentifier; met = told } ∷ [])
+
+  -- no question of 6 to 9 refuses with 11
+  not-11 : messageAnswer e s ≡ Refused WrongIdentifier → ⊥
+  unfolding messageAnswer messageQuestions
+  not-11 a =
+      let f = refused-no WrongIdentifier (messageQuestions e s) a in
+      few (f .0) (f .1) (numbered (f .0) WrongIdentifier (f .1))
+    where
+      few : (n : ℕ) → NoAt n WrongIdentifier (messageQuestions e s) → numberOf WrongIdentifier ≡ 6 + n → ⊥
+      few zero h q = omega (arith, q)
+      few (suc zero) h q = omega (arith, q)
+      few (suc (suc zero)) h q = omega (arith, q)
+      few (suc (suc (suc zero))) h q = omega (arith, q)
+      few (suc (suc (suc (suc n)))) h q = h .1 .1 .1 .1
+
+  pub reader-done : readerAnswer e s ≡ Done ↔ (messageAnswer e s ≡ Done) × (identifierTold (codeOf s) (identifierOf s) ≡ true)
+  reader-done = (λ a. go (messageAnswer e s) told (sym reader-split ∙ a), λ h. reader-split ∙ rw (h .0, h .1))
+    where
+      go : (a : Answer) (b : Bool) → answerThen a (cond b Done (Refused WrongIdentifier)) ≡ Done → (a ≡ Done) × (b ≡ true)
+      go Done true q = (refl, refl)
+      go Done false q = let z : _≡_ {A = ℕ} 0 1 = cc in absurd (omega arith)
+      go (Refused r) b q = let z : _≡_ {A = ℕ} 0 1 = cc in absurd (omega arith)
+
+  pub reader-11 : readerAnswer e s ≡ Refused WrongIdentifier ↔ (messageAnswer e s ≡ Done) × (identifierTold (codeOf s) (identifierOf s) ≡ false)
+  reader-11 = (λ a. go (messageAnswer e s) told not-11 (sym reader-split ∙ a), λ h. reader-split ∙ rw (h .0, h .1))
+    where
+      go : (a : Answer) (b : Bool) → (a ≡ Refused WrongIdentifier → ⊥) → answerThen a (cond b Done (Refused WrongIdentifier)) ≡ Refused WrongIdentifier → (a ≡ Done) × (b ≡ false)
+      go Done true n q = let z : _≡_ {A = ℕ} 0 1 = cc in absurd (omega arith)
+      go Done false n q = (refl, refl)
+      go (Refused r) b n q = absurd (n q)
+
+  -- what 6 to 9 refuse it refuses with the same number
+  pub reader-refused : (r : Refusal) → messageAnswer e s ≡ Refused r → readerAnswer e s ≡ Refused r
+  reader-refused r h = reader-split ∙ rw h
+
+  pub reader-answer : readerOf e s .answer ≡ readerAnswer e s
+  unfolding readerOf takenOf
+  reader-answer = go (readerAnswer e s)
+    where
+      go : (a : Answer) → readingFor a s .answer ≡ a
+      go Done = refl
+      go (Refused r) = refl
+
+  -- where it takes a message, its reading is that inside the end
+  pub reader-reads : readerAnswer e s ≡ Done → readerOf e s ≡ readOf e s
+  unfolding readerOf readOf
+  reader-reads a = rw (a, reader-done .0 a .0)

@@ -1,25 +1,28 @@
--- An accepted message in the standard order, written again by the writer's call: done, and the same octets with the digest set to zeros.
-use Prim.Native.Nat.{ℕ, _-_, _≤_}
+-- What the reader took is written again by the writer's call: done, and in the standard order the same octets with the digest set to zeros.
+use Prim.Native.Nat.{ℕ, _+_, _-_, _≤_, _<_}
 use mathlib.Core.Path.{_≡_, refl, ap, _∙_}
 use mathlib.Core.List.{List, _++_}
-use mathlib.Core.Bool.{Bool, true, false, cond}
+use mathlib.Core.Bool.{Bool, true, false, cond, _&&_}
 use lib.ListN.{length, take, drop, replicate, length-append, length-take, length-drop}
-use lib.Dec.{leb}
+use lib.Dec.{leb, eqb}
 use native.Mathlib.Omega.{arith}
-use borrow.Author.Tests.{eqb-true, le-leb}
+use borrow.Author.Tests.{eqb-true, leb-true, le-leb}
+use Rattle.questions.proofs.TestLaws.{both}
 use Rattle.questions.specs.declared.refusal.Answer.the-variants.{Done}
 use Rattle.wire.specs.declared.fields.Receiver.{Receiver}
 use Rattle.wire.specs.declared.fields.Place.{Place}
-use Rattle.wire.specs.Attributes.{items, valueAt, startFrom}
+use Rattle.wire.specs.Attributes.{Item, items, values, valueAt, startFrom}
 use Rattle.wire.specs.Ranges.{needs, fits}
-use Rattle.wire.specs.Messages.{codeOf, identifierOf, bodyOf, messageAnswer}
-use Rattle.wire.specs.Limits.{headFits, authKeyFits}
+use Rattle.wire.specs.Messages.{codeOf, lengthOf, bodyOf, isWhole, messageAnswer, readerAnswer}
+use Rattle.wire.specs.Limits.{authKeyFits}
 use Rattle.wire.specs.Reading.{noPlace, placeOf, takenOf}
-use Rattle.wire.specs.Standard.{standard, digestZeroed}
+use Rattle.wire.specs.Standard.{ordered, insidesOrdered, standard, digestZeroed}
 use Rattle.wire.specs.Writing.{messageOf, noDigest, writeQuestions, writtenOf, writeOf}
 use Rattle.wire.proofs.AttributesLaws.{Octets}
 use Rattle.wire.proofs.TakenLaws.{taken, first-fits}
-use Rattle.wire.proofs.ReadFits.{read-fits}
+use Rattle.wire.proofs.MessageAnswers.{answer-done, reader-done}
+use Rattle.wire.proofs.ReadFits.{reader-fits}
+use Rattle.wire.proofs.WrittenRead.{call-asked}
 use Rattle.wire.proofs.ReadWritten.{value-is, read-written}
 
 module _ (e : Receiver) (s : List ℕ) (o : Octets s) (d : messageAnswer e s ≡ Done) (st : standard s ≡ true) where
@@ -36,6 +39,38 @@ module _ (e : Receiver) (s : List ℕ) (o : Octets s) (d : messageAnswer e s ≡
           → length (take (place b .len) (drop (place b .start) s)) ≡ place b .len
       go true h v = ap length (rw h at (v h))
       go false h v = refl
+
+  -- start and length of its place are below 2^16: the message has at most 1,494 octets
+  pub key-held : (takenOf s .key .start < 65536) × (takenOf s .key .len < 65536)
+  unfolding takenOf placeOf fits standard isWhole
+  key-held = go (needs (codeOf s) 7) refl (value-is e s o d st 7 refl refl)
+    where
+      l : List Item
+      l = items (bodyOf s)
+
+      place : Bool → Place
+      place b = cond b (record { start = startFrom 4 7 l; len = length (valueAt 7 0 l) }) noPlace
+
+      long : length s ≤ 1494
+      long =
+          let w = answer-done e s .0 d .0 in
+          let n = both (leb 4 (length s) && leb (lengthOf s) 1490) (leb (4 + lengthOf s) (length s)) w in
+          let most = leb-true (lengthOf s) 1490 (both (leb 4 (length s)) (leb (lengthOf s) 1490) (n .0) .1) in
+          let t₂ = insidesOrdered 13 (values 13 l) in
+          let t₁ = ordered (codeOf s) l in
+          let same = both (eqb (length s) (4 + lengthOf s)) t₁ (both (eqb (length s) (4 + lengthOf s) && t₁) t₂ (both (eqb (length s) (4 + lengthOf s) && t₁ && t₂) (insidesOrdered 23 (values 23 l)) st .0) .0) .0 in
+          omega (arith, most, eqb-true (length s) (4 + lengthOf s) same)
+
+      go : (b : Bool) → needs (codeOf s) 7 ≡ b
+          → (needs (codeOf s) 7 ≡ true → take (place (needs (codeOf s) 7) .len) (drop (place (needs (codeOf s) 7) .start) s) ≡ valueAt 7 0 l)
+          → (place b .start < 65536) × (place b .len < 65536)
+      go true h v =
+          let n = both (leb 1 (length (valueAt 7 0 l))) (leb (length (valueAt 7 0 l)) 256) (first-fits (codeOf s) l (taken e s d) 7 refl refl h) in
+          let few = leb-true (length (valueAt 7 0 l)) 256 (n .1) in
+          let some = leb-true 1 (length (valueAt 7 0 l)) (n .0) in
+          let there : take (length (valueAt 7 0 l)) (drop (startFrom 4 7 l) s) ≡ valueAt 7 0 l = rw h at (v h) in
+          (omega (arith, long, some, ap length there, length-take (length (valueAt 7 0 l)) (drop (startFrom 4 7 l) s), length-drop (startFrom 4 7 l) s), omega (arith, few))
+      go false h v = (omega arith, omega arith)
 
   -- the digest is not longer than the message
   digest-within : needs (codeOf s) 11 ≡ true → 20 ≤ length s
@@ -55,18 +90,23 @@ module _ (e : Receiver) (s : List ℕ) (o : Octets s) (d : messageAnswer e s ≡
       go true h = omega (arith, h refl, length-append (take (length s - 20) s) (replicate 20 0), length-take (length s - 20) s)
       go false h = refl
 
--- The fields and the AUTH-Key that were read are written again, where the lent slice is as long as the message
-pub read-call : (e : Receiver) (s : List ℕ) (lent : ℕ)
-    → Octets s → messageAnswer e s ≡ Done → standard s ≡ true → headFits (codeOf s) (identifierOf s) ≡ true → length s ≤ lent
+-- The writer takes what the reader took: done, with an AUTH-Key as long as the one that was read, where the message fits the lent slice
+pub reader-writes : (e : Receiver) (s key : List ℕ) (lent : ℕ) → readerAnswer e s ≡ Done → length key ≡ takenOf s .key .len
+    → length (messageOf (takenOf s .fields) key noDigest) ≤ lent → writeOf (takenOf s .fields) key lent .answer ≡ Done
+unfolding writeOf writeQuestions
+reader-writes e s key lent d n m =
+    let q = reader-fits e s d in
+    let auth : authKeyFits (takenOf s .fields) (length key) ≡ true = ap (authKeyFits (takenOf s .fields)) n ∙ q .1 in
+    rw (q .0, auth, le-leb (length (messageOf (takenOf s .fields) key noDigest)) lent m)
+
+-- In the standard order, the fields and the AUTH-Key that were read are written again, where the lent slice is as long as the message
+pub read-call : (e : Receiver) (s : List ℕ) (lent : ℕ) → Octets s → readerAnswer e s ≡ Done → standard s ≡ true → length s ≤ lent
     → (writeOf (takenOf s .fields) (take (takenOf s .key .len) (drop (takenOf s .key .start) s)) lent .answer ≡ Done)
     × (writtenOf (takenOf s .fields) (take (takenOf s .key .len) (drop (takenOf s .key .start) s)) lent ≡ digestZeroed s)
-unfolding writeOf writtenOf writeQuestions
-read-call e s lent o d st h m =
+read-call e s lent o d st m =
     let f = takenOf s .fields in
     let key = take (takenOf s .key .len) (drop (takenOf s .key .start) s) in
-    let q = read-fits e s d h in
-    let same : messageOf f key noDigest ≡ digestZeroed s = read-written e s o d st in
-    let auth : authKeyFits f (length key) ≡ true = ap (authKeyFits f) (key-length e s o d st) ∙ q .1 in
-    let room : leb (length (messageOf f key noDigest)) lent ≡ true =
-    le-leb (length (messageOf f key noDigest)) lent (omega (arith, ap length same, zeroed-length e s o d st)) in
-    (rw (q .0, auth, room), rw (q .0, auth, room) same)
+    let taken = reader-done e s .0 d .0 in
+    let same : messageOf f key noDigest ≡ digestZeroed s = read-written e s o taken st in
+    let done = reader-writes e s key lent d (key-length e s o taken st) (omega (arith, ap length same, zeroed-length e s o taken st, m)) in
+    (done, call-asked f key lent done .2 ∙ same)

@@ -16,11 +16,12 @@ use Rattle.wire.specs.declared.fields.Place.{Place}
 use Rattle.wire.specs.declared.fields.Receiver.{Receiver}
 use Rattle.wire.specs.Attributes.{Item, items, itemsWith, values, countOf, valueAt, startFrom, be16, be32}
 use Rattle.wire.specs.Ranges.{needs, longestLife, fits}
-use Rattle.wire.specs.Messages.{codeOf, identifierOf, bodyOf, inOrder, messageAnswer}
+use Rattle.wire.specs.Messages.{codeOf, identifierOf, bodyOf, inOrder, messageAnswer, readerAnswer}
 use Rattle.wire.specs.Fields.{keyOctets, paramsOf, descriptorOf, carried, carriedCount, fieldsOf}
 use Rattle.wire.specs.Reading.{noPlace, placeOf, takenOf}
 use Rattle.wire.specs.Limits.{carriedOr, keyOctetsZero, paramsFit, paramsZero, pairFit, descriptorFit, descriptorZero, placeFit, descriptorsFit, descriptorsZero, headFits, fieldsFit, authKeyFits}
 use Rattle.keys.proofs.OctetsLaws.{padded-length}
+use Rattle.wire.proofs.MessageAnswers.{reader-done}
 use Rattle.wire.proofs.FieldsFit.{Shaped}
 use Rattle.wire.proofs.PartsRead.{params-read-fit}
 use Rattle.wire.proofs.DescriptorsRead.{fourOf, take-four, saids-read, descriptor-read-fit}
@@ -161,6 +162,15 @@ unfolding takenOf
 read-fits e s d h =
     let t = taken e s d in
     (fields-fit (codeOf s) (items (bodyOf s)) t (identifierOf s) h, auth-fit (codeOf s) (items (bodyOf s)) t (identifierOf s))
+
+-- and so may those of every message that the reader by itself took
+pub reader-fits : (e : Receiver) (s : List ℕ) → readerAnswer e s ≡ Done
+    → (fieldsFit (takenOf s .fields) ≡ true) × (authKeyFits (takenOf s .fields) (takenOf s .key .len) ≡ true)
+unfolding headFits
+reader-fits e s d =
+    let r = reader-done e s .0 d in
+    let t = taken e s (r .0) in
+    read-fits e s (r .0) (rw (le-leb 4 (codeOf s) (t .low), le-leb (codeOf s) 12 (t .high), r .1))
 
 -- and their arrays have the declared lengths
 pub read-shaped : (s : List ℕ) → Shaped (takenOf s .fields)

@@ -16,13 +16,13 @@ use Rattle.wire.specs.declared.fields.Fields.{Fields}
 use Rattle.wire.specs.declared.fields.Place.{Place}
 use Rattle.wire.specs.Attributes.{items, values, countOf, valueAt, startFrom, two, octets}
 use Rattle.wire.specs.Ranges.{neededOf, among, needs, good, sound}
-use Rattle.wire.specs.Messages.{lengthOf, bodyOf, isWhole, receives, receiverOf, messageAnswer}
-use Rattle.wire.specs.Reading.{noPlace, placeOf, takenOf, readOf}
+use Rattle.wire.specs.Messages.{lengthOf, bodyOf, isWhole, receives, receiverOf, messageAnswer, readerAnswer}
+use Rattle.wire.specs.Reading.{noPlace, placeOf, takenOf, readOf, readerOf}
 use Rattle.wire.specs.Limits.{fieldsFit, authKeyFits}
 use Rattle.wire.specs.Writing.{itemsOfType, itemsOfTypes, itemsOf, message, messageOf, writeOf, writtenOf, writeQuestions, noDigest}
 use Rattle.wire.proofs.AttributesLaws.{items-octets}
 use Rattle.wire.proofs.HoldsLaws.{never, length-attr, all-whole, start-value}
-use Rattle.wire.proofs.MessageAnswers.{answer-done}
+use Rattle.wire.proofs.MessageAnswers.{answer-done, reader-done, reader-reads}
 use Rattle.wire.proofs.CodesLaws.{by-code}
 use Rattle.wire.proofs.FieldsFit.{Shaped, Fit, fit}
 use Rattle.wire.proofs.WrittenBody.{mostOctets, short, all-good, body-most, body-fits, all-complete}
@@ -146,6 +146,10 @@ module _ (f : Fields) (key digest : List ℕ) (s : Shaped f) (t : Fit f key) (n 
     unfolding readOf takenOf
     back = rw (taken, code-is, identifier-is, items-are, fields-back f key digest s t, key-back, digest-back)
 
+    -- the reader by itself takes it too
+    reader-takes : readerAnswer (receiverOf (f .code)) (messageOf f key digest ++ padding) ≡ Done
+    reader-takes = reader-done (receiverOf (f .code)) (messageOf f key digest ++ padding) .1 (taken, rw (code-is, identifier-is) (t .told))
+
     key-taken : takenOf (messageOf f key digest ++ padding) .key ≡ keyPlace f key
     unfolding takenOf
     key-taken = rw (code-is, items-are, key-back)
@@ -222,6 +226,18 @@ pub call-read : (f : Fields) (key padding : List ℕ) (lent : ℕ) → Shaped f 
 call-read f key padding lent s done =
     let a = call-asked f key lent done in
     rw (a .2) (written-read f key noDigest padding s (a .0) (a .1) refl)
+
+-- by the reader by itself too
+pub call-reader : (f : Fields) (key padding : List ℕ) (lent : ℕ) → Shaped f → writeOf f key lent .answer ≡ Done
+    → (readerAnswer (receiverOf (f .code)) (writtenOf f key lent ++ padding) ≡ Done)
+    × (readerOf (receiverOf (f .code)) (writtenOf f key lent ++ padding)
+    ≡ record { answer = Done; fields = f; key = keyPlace f key; digest = digestPlace f key noDigest })
+call-reader f key padding lent s done =
+    let a = call-asked f key lent done in
+    let e = receiverOf (f .code) in
+    let m = writtenOf f key lent ++ padding in
+    let takes : readerAnswer e m ≡ Done = rw (a .2) (reader-takes f key noDigest s (fit f key (a .0) (a .1)) refl padding) in
+    (takes, reader-reads e m takes ∙ call-read f key padding lent s done)
 
 -- and so is the AUTH-Key
 pub call-key : (f : Fields) (key padding : List ℕ) (lent : ℕ) → Shaped f → writeOf f key lent .answer ≡ Done → needs (f .code) 7 ≡ true

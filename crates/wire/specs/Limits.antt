@@ -14,7 +14,7 @@ use Rattle.wire.specs.declared.fields.Params.{Params}
 use Rattle.wire.specs.declared.fields.Descriptor.{Descriptor}
 use Rattle.wire.specs.declared.fields.Fields.{Fields}
 use Rattle.wire.specs.Ranges.{needs}
-use Rattle.wire.specs.Messages.{different}
+use Rattle.wire.specs.Messages.{different, identifierTold}
 use Rattle.wire.specs.Fields.{noDescriptor}
 
 -- A field that the code carries is in its range; one that it does not carry is zero
@@ -65,7 +65,7 @@ descriptorsZero n ds = eqb n 0 && placeFit 0 0 ds && placeFit 0 1 ds && placeFit
 
 -- One of the nine codes; Identifier 0 in TEK Invalid and in Authentication Information
 unfoldable pub headFits : ℕ → ℕ → Bool
-headFits c identifier = leb 4 c && leb c 12 && (not (eqb c 11 || eqb c 12) || eqb identifier 0)
+headFits c identifier = leb 4 c && leb c 12 && identifierTold c identifier
 
 unfoldable pub fieldsFit : Fields → Bool
 fieldsFit f =

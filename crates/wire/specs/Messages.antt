@@ -1,11 +1,11 @@
--- Questions 6 to 9 of a message (document 01, "Messages" and "The questions, in order").
+-- Questions 6 to 9 of a message, and the half of 11 that needs no state (document 01, "Messages" and "The questions, in order").
 use Prim.Native.Nat.{ℕ, _+_, _*_, _%_}
-use mathlib.Core.List.{List, [], _∷_}
+use mathlib.Core.List.{List, [], _∷_, _++_}
 use mathlib.Core.Bool.{Bool, true, _&&_, _||_, not, cond}
 use lib.ListN.{length, getD, take, drop}
 use lib.Dec.{leb, ltb, eqb}
 use Rattle.questions.specs.declared.refusal.Answer.{Answer}
-use Rattle.questions.specs.declared.refusal.Refusal.the-variants.{CutMessage, CodeNotReceived, BadAttribute, WrongAttributes}
+use Rattle.questions.specs.declared.refusal.Refusal.the-variants.{CutMessage, CodeNotReceived, BadAttribute, WrongAttributes, WrongIdentifier}
 use Rattle.questions.specs.Questions.{Question, firstNo}
 use Rattle.wire.specs.declared.fields.Receiver.{Receiver}
 use Rattle.wire.specs.declared.fields.Receiver.the-variants.{HeadEnd, Modem}
@@ -115,6 +115,17 @@ messageQuestions e s =
     ∷ record { refusal = WrongAttributes; met = question9 s }
     ∷ []
 
--- What the reader answers
+-- What the reading inside an end answers; the end asks 10 and 11 after it
 unfoldable pub messageAnswer : Receiver → List ℕ → Answer
 messageAnswer e s = firstNo (messageQuestions e s)
+
+-- ---- 11, the half that needs no end's state: TEK Invalid and Authentication Information carry Identifier 0
+abbrev pub identifierTold : ℕ → ℕ → Bool
+identifierTold c identifier = not (eqb c 11 || eqb c 12) || eqb identifier 0
+
+-- The questions of the reader by itself, which knows no end's state: 6 to 9, then that half of 11
+unfoldable pub readerQuestions : Receiver → List ℕ → List Question
+readerQuestions e s = messageQuestions e s ++ (record { refusal = WrongIdentifier; met = identifierTold (codeOf s) (identifierOf s) } ∷ [])
+
+unfoldable pub readerAnswer : Receiver → List ℕ → Answer
+readerAnswer e s = firstNo (readerQuestions e s)

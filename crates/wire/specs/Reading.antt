@@ -10,7 +10,7 @@ use Rattle.wire.specs.declared.fields.Place.{Place}
 use Rattle.wire.specs.declared.fields.Reading.{Reading}
 use Rattle.wire.specs.Attributes.{Item, items, valueAt, startFrom}
 use Rattle.wire.specs.Ranges.{needs}
-use Rattle.wire.specs.Messages.{codeOf, identifierOf, bodyOf, messageAnswer}
+use Rattle.wire.specs.Messages.{codeOf, identifierOf, bodyOf, messageAnswer, readerAnswer}
 use Rattle.wire.specs.Fields.{fieldsOf, noFields}
 
 abbrev pub noPlace : Place
@@ -34,5 +34,10 @@ abbrev pub readingFor : Answer → List ℕ → Reading
 readingFor Done s = takenOf s
 readingFor (Refused r) s = record { answer = Refused r; fields = noFields; key = noPlace; digest = noPlace }
 
+-- The reading inside an end
 unfoldable pub readOf : Receiver → List ℕ → Reading
 readOf e s = readingFor (messageAnswer e s) s
+
+-- The reader by itself
+unfoldable pub readerOf : Receiver → List ℕ → Reading
+readerOf e s = readingFor (readerAnswer e s) s

@@ -1,10 +1,10 @@
 -- The call's questions in order, and what each answer leaves in the lent slice.
 use Prim.Native.Nat.{ℕ, _+_, _≤_, _<_}
 use mathlib.Core.Path.{_≡_, refl}
-use mathlib.Core.Bool.{true, false, _&&_, _||_, not}
+use mathlib.Core.Bool.{true, false, _&&_}
 use mathlib.Core.List.{List}
 use native.Mathlib.Omega.{arith}
-use lib.Dec.{leb, eqb}
+use lib.Dec.{leb}
 use lib.ListN.{length}
 use borrow.Author.Tests.{leb-true, le-leb, lt-leb}
 use Rattle.questions.specs.declared.refusal.Answer.the-variants.{Done, Refused}
@@ -14,6 +14,7 @@ use Rattle.questions.proofs.TestLaws.{both}
 use Rattle.wire.specs.declared.fields.Fields.{Fields}
 use Rattle.wire.specs.declared.fields.Writing.{Writing}
 use Rattle.wire.specs.Attributes.{two}
+use Rattle.wire.specs.Messages.{identifierTold}
 use Rattle.wire.specs.Limits.{headFits, fieldsFit, authKeyFits}
 use Rattle.wire.specs.Writing.{message, messageOf, noDigest, writeQuestions, writtenOf, writeOf}
 use Rattle.keys.specs.Put.{Put}
@@ -27,7 +28,7 @@ fits-head f e = both _ _ (both _ _ (both _ _ (both _ _ (both _ _ (both _ _ e .0)
 pub fits-writable : (f : Fields) (n : ℕ) → fieldsFit f ≡ true → authKeyFits f n ≡ true → Writable f n
 unfolding headFits
 fits-writable f n e k =
-    let head = both (leb 4 (f .code) && leb (f .code) 12) (not (eqb (f .code) 11 || eqb (f .code) 12) || eqb (f .identifier) 0) (fits-head f e) .0 in
+    let head = both (leb 4 (f .code) && leb (f .code) 12) (identifierTold (f .code) (f .identifier)) (fits-head f e) .0 in
     let range = both (leb 4 (f .code)) (leb (f .code) 12) head in
     record { low = leb-true 4 (f .code) (range .0); high = leb-true (f .code) 12 (range .1); key = k }
 
