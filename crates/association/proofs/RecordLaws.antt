@@ -1,17 +1,17 @@
 -- Laws of the limits of a record (`specs/Record.antt`): its tests, the facts that they say together, and that minting, listing
 -- and the clock's rule stay within them.
 use mathlib.Core.Path.{_≡_, refl}
-use mathlib.Core.Bool.{Bool, true, false, _&&_, and-false}
+use mathlib.Core.Bool.{Bool, true, false, and-false}
 use Prim.Native.Nat.{ℕ, _+_, _-_, _*_, _<_, _≤_}
 use mathlib.Core.List.{List}
 use native.Mathlib.Omega.{arith}
-use lib.Dec.{leb, ltb, eqb}
-use borrow.Author.Tests.{le-ltb, lt-ltb, le-leb, eq-eqb, ne-eqb, ltb-true, leb-true, eqb-true}
+use lib.Dec.{ltb, eqb}
+use borrow.Author.Tests.{le-ltb, lt-ltb, eq-eqb, ne-eqb, ltb-true, eqb-true}
 use Rattle.key_numbers.specs.declared.numbers.TekNumber.{TekNumber}
 use Rattle.key_numbers.specs.Numbers.{tekInRange, afterOf, tekNumber}
 use Rattle.keys.specs.Suites.{suiteKnown, widthOf}
 use Rattle.keys.specs.Traffic.{keyFits, follows}
-use Rattle.questions.proofs.TestLaws.{sub-leb, sub-eqb, both}
+use Rattle.questions.proofs.TestLaws.{sub-eqb, both}
 use Rattle.questions.proofs.ListLaws.{IfLt, if-lt}
 use Rattle.keys.proofs.OctetsLaws.{octets-zero-past}
 use Rattle.keys.proofs.TrafficLaws.{after-in-range, next-follows}
@@ -20,7 +20,7 @@ use Rattle.association.specs.Mint.{mintOf}
 use Rattle.association.specs.Roll.{rolledBy, rolledOf}
 use Rattle.association.specs.Listing.{freshOf}
 use Rattle.keys.specs.Addresses.{saidFits}
-use Rattle.association.specs.Record.{deadlinesFit, recordFits, Rollable}
+use Rattle.association.specs.Record.{deadlinesFit, recordFits, Near, Rollable}
 
 -- ---- the tests of the deadlines, one by one
 module _ (half clock older newer : ℕ) where
@@ -34,10 +34,9 @@ module _ (half clock older newer : ℕ) where
       let apart : eqb newer (older + half) ≡ false = ne-eqb newer (older + half) (λ e. omega (arith, e)) in
       simp (apart, and-false)
 
-  pub deadlines-asked : clock < older → older ≤ newer → (leb (older - clock) half && eqb (newer - older) half) ≡ deadlinesFit half clock older newer
+  pub deadlines-asked : clock < older → older ≤ newer → eqb (newer - older) half ≡ deadlinesFit half clock older newer
   unfolding deadlinesFit
-  deadlines-asked ahead ordered =
-      simp (lt-ltb clock older ahead, sub-leb older clock half (omega arith), sub-eqb newer older half ordered)
+  deadlines-asked ahead ordered = simp (lt-ltb clock older ahead, sub-eqb newer older half ordered)
 
 -- ---- the limits as facts
 pub record InLimits (half clock : ℕ) (a : Assoc) : Type 0 where
@@ -47,7 +46,6 @@ pub record InLimits (half clock : ℕ) (a : Assoc) : Type 0 where
   pub newer-fits : keyFits (widthOf (a .suite)) (a .newer) ≡ true
   pub next : follows (a .older) (a .newer) ≡ true
   pub ahead : clock < a .older .deadline
-  pub near : a .older .deadline ≤ clock + half
   pub paced : a .newer .deadline ≡ a .older .deadline + half
 
 pub limits-of : (half clock : ℕ) (a : Assoc) → recordFits half clock a ≡ true → InLimits half clock a
@@ -58,17 +56,15 @@ limits-of half clock a e =
     let s₃ = both _ _ (s₄ .0) in
     let s₂ = both _ _ (s₃ .0) in
     let s₁ = both _ _ (s₂ .0) in
-    let d₂ = both _ _ (s₅ .1) in
-    let d₁ = both _ _ (d₂ .0) in
+    let d = both _ _ (s₅ .1) in
     record {
       said-fits = s₁ .0;
       suite-known = s₁ .1;
       older-fits = s₂ .1;
       newer-fits = s₃ .1;
       next = s₄ .1;
-      ahead = ltb-true _ _ (d₁ .0);
-      near = leb-true _ _ (d₁ .1);
-      paced = eqb-true _ _ (d₂ .1);
+      ahead = ltb-true _ _ (d .0);
+      paced = eqb-true _ _ (d .1);
     }
 
 pub fits-by : (half clock : ℕ) (a : Assoc) → InLimits half clock a → recordFits half clock a ≡ true
@@ -81,7 +77,6 @@ fits-by half clock a i =
       i .newer-fits,
       i .next,
       lt-ltb clock (a .older .deadline) (i .ahead),
-      le-leb (a .older .deadline) (clock + half) (i .near),
       eq-eqb (a .newer .deadline) (a .older .deadline + half) (i .paced),
     )
 
@@ -101,7 +96,6 @@ module _ (half : ℕ) (m : List ℕ) (at : ℕ) (pos : 0 < half) where
         newer-fits = mint-fits m (at + 32) (widthOf suite) (tekNumber 1) (clock + 2 * half) refl;
         next = refl;
         ahead = omega arith;
-        near = omega arith;
         paced = omega arith;
       }
 
@@ -116,7 +110,6 @@ module _ (half : ℕ) (m : List ℕ) (at : ℕ) (pos : 0 < half) where
           newer-fits = i .newer-fits;
           next = i .next;
           ahead = live;
-          near = omega (arith, i .near);
           paced = i .paced;
         }
     kept-by false true past live =
@@ -127,7 +120,6 @@ module _ (half : ℕ) (m : List ℕ) (at : ℕ) (pos : 0 < half) where
           newer-fits = mint-fits m at (widthOf (a .suite)) (afterOf (a .newer .number) 1) (a .newer .deadline + half) (after-in-range (a .newer .number) 1);
           next = eq-eqb (afterOf (a .newer .number) 1 .0) (afterOf (a .newer .number) 1 .0) refl;
           ahead = live;
-          near = omega (arith, i .paced, past);
           paced = refl;
         }
     kept-by false false past over =
@@ -138,7 +130,6 @@ module _ (half : ℕ) (m : List ℕ) (at : ℕ) (pos : 0 < half) where
           newer-fits = mint-fits m (at + 32) (widthOf (a .suite)) (afterOf (a .newer .number) 2) (t + 2 * half) (after-in-range (a .newer .number) 2);
           next = next-follows (a .newer .number) 1;
           ahead = omega arith;
-          near = omega arith;
           paced = omega arith;
         }
 
@@ -147,7 +138,22 @@ module _ (half : ℕ) (m : List ℕ) (at : ℕ) (pos : 0 < half) where
     unfolding rolledOf
     roll-limits = kept-by (ltb t (a .older .deadline)) (ltb t (a .newer .deadline)) (if-lt t (a .older .deadline)) (if-lt t (a .newer .deadline))
 
--- the same as a test
+-- ---- what the calls make is at most H ahead
+pub fresh-near : (half clock : ℕ) (m : List ℕ) (at said suite : ℕ) → Near half clock (freshOf half clock m at said suite)
+unfolding freshOf
+fresh-near half clock m at said suite = omega arith
+
+pub roll-near : (half clock t : ℕ) (m : List ℕ) (at : ℕ) (a : Assoc) → clock ≤ t → a .newer .deadline ≡ a .older .deadline + half
+    → Near half clock a → Near half t (rolledOf half t m at a)
+unfolding rolledOf
+roll-near half clock t m at a on paced near = go (ltb t (a .older .deadline)) (ltb t (a .newer .deadline)) (if-lt t (a .older .deadline))
+  where
+    go : (b c : Bool) → IfLt t (a .older .deadline) b → Near half t (rolledBy b c half t m at a)
+    go true c live = omega (arith, near)
+    go false true past = omega (arith, paced, past)
+    go false false past = omega arith
+
+-- the limits as a test
 pub roll-fits : (half : ℕ) (m : List ℕ) (at clock t : ℕ) (a : Assoc) → 0 < half → clock ≤ t → recordFits half clock a ≡ true → recordFits half t (rolledOf half t m at a) ≡ true
 roll-fits half m at clock t a pos on e = fits-by half t (rolledOf half t m at a) (roll-limits half m at pos clock t on a (limits-of half clock a e))
 

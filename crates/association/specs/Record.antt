@@ -2,15 +2,15 @@
 use mathlib.Core.Bool.{Bool, _&&_}
 use mathlib.Core.Path.{_≡_}
 use Prim.Native.Nat.{ℕ, _+_, _≤_}
-use lib.Dec.{leb, ltb, eqb}
+use lib.Dec.{ltb, eqb}
 use Rattle.keys.specs.Suites.{suiteKnown, widthOf}
 use Rattle.keys.specs.Addresses.{saidFits}
 use Rattle.keys.specs.Traffic.{keyFits, follows}
 use Rattle.association.specs.declared.record.Assoc.{Assoc}
 
--- The older's deadline is after the clock, by H at most; the newer's is H more
+-- The older's deadline is after the clock; the newer's is H more
 unfoldable pub deadlinesFit : ℕ → ℕ → ℕ → ℕ → Bool
-deadlinesFit half clock older newer = ltb clock older && leb older (clock + half) && eqb newer (older + half)
+deadlinesFit half clock older newer = ltb clock older && eqb newer (older + half)
 
 unfoldable pub recordFits : ℕ → ℕ → Assoc → Bool
 recordFits half clock a =
@@ -20,6 +20,10 @@ recordFits half clock a =
     && keyFits (widthOf (a .suite)) (a .newer)
     && follows (a .older) (a .newer)
     && deadlinesFit half clock (a .older .deadline) (a .newer .deadline)
+
+-- The older's deadline is at most H after the clock. No question asks it; every record that the calls make has it
+abbrev pub Near : ℕ → ℕ → Assoc → Type 0
+Near half clock a = a .older .deadline ≤ clock + half
 
 -- What the clock's rule needs so that no sum wraps; `RecordLaws` shows that a record within the limits has it
 pub record Rollable (half t : ℕ) (a : Assoc) : Type 0 where

@@ -23,7 +23,7 @@ pub fn said_fits(said: u16) -> bool
     said <= 16383
 }
 
-// Whether the older's deadline is after `clock`, by at most `half`, and the newer's `half` more.
+// Whether the older's deadline is after `clock`, and the newer's `half` more.
 pub fn deadlines_fit(older: u64, newer: u64, half: u64, clock: u64) -> bool
     ensures { λ r. ⌜ r ≡ deadlinesFit half clock older newer ⌝ }
 {
@@ -33,7 +33,7 @@ pub fn deadlines_fit(older: u64, newer: u64, half: u64, clock: u64) -> bool
     if newer < older {
         return false;
     }
-    (older - clock <= half) & (newer - older == half)
+    newer - older == half
 }
 
 // The limits of a record at `clock`.

@@ -21,7 +21,7 @@ use Rattle.headend_state.specs.declared.state.AuthKeys.{AuthKeys}
 use Rattle.headend_state.specs.declared.state.HeadEnd.{HeadEnd}
 use Rattle.headend_state.specs.declared.entries.Known.{Known}
 use Rattle.headend_answers.specs.declared.answers.Reaction.{Reaction}
-use Rattle.headend_state.specs.Authorization.{isActive, withKey, keysFor}
+use Rattle.headend_state.specs.Authorization.{isActive, withKey, keysFor, lifeLeft}
 use Rattle.headend_state.specs.Entries.{lists, listsSuite, knownOf, withEntry}
 use Rattle.headend_limits.specs.Search.{halfIn, ofRequest}
 use Rattle.answer_fields.specs.AnswerFields.{reject, invalid, keyReject, keyReply, replyAnswer}
@@ -51,13 +51,14 @@ abbrev pub placeOf : List Assoc → List ℕ → ℕ
 placeOf xs s = firstOf (ofRequest (readOf AtHeadEnd s)) xs
 
 module _ (h : HeadEnd) (xs : List Assoc) (address : ℕ) (digest : Bool) (s key : List ℕ) (lent : ℕ) where
-  -- A Key Reply of the record a, which is that of the SAID, in use, within its limits, and has a suite that the modem's entry names for the
-  -- SAID: its older key, then its newer, each with its deadline minus the clock
+  -- A Key Reply of the record a, which is that of the SAID, in use, within its limits, with lives that can be written, and has a suite that the
+  -- modem's entry names for the SAID: its older key, then its newer, each with its deadline minus the clock
   pub record KeyReplied (a : Assoc) : Type 0 where
     pub inside : placeOf xs s < h .used
     pub there : getD xs (placeOf xs s) none ≡ a
     pub said : a .said ≡ request s .said
     pub limits : InLimits (halfIn h) (h .clock) a
+    pub short : lifeLeft (h .clock) (a .newer .deadline) ≤ 604800
     pub suite : listsSuite (knownOf h address .entry .listing) (request s .said) (a .suite) ≡ true
     pub sent : Sent h xs address digest s key lent (keyReply (h .clock) a (request s)) h
 
@@ -130,6 +131,7 @@ module _ (h : HeadEnd) (xs : List Assoc) (address : ℕ) (digest : Bool) (s key 
                 there = refl;
                 said = eqb-true (getD xs (placeOf xs s) none .said) (request s .said) (first-is-hit p xs all);
                 limits = limits-of (halfIn h) (h .clock) (getD xs (placeOf xs s) none) (rw same at (suits .1));
+                short = rw same at (suits .3);
                 suite = rw same at (suits .2);
                 sent = by-key (keyReply (h .clock) (getD xs (placeOf xs s) none) (request s))
                     (key-granted (h .clock) known held digest (request s) listed active holds own ∙ ap (λ (a : Assoc). keyReply (h .clock) a (request s)) same);

@@ -3,8 +3,10 @@ pub mod WithinLaws
 pub mod EntriesKept
 pub mod RecordsKept
 pub mod KeptLimits
+pub mod NearLaws
 pub mod Refused
 pub mod AnswersSent
+pub mod RequestsWritten
 pub mod AnswerCases
 pub mod StateLaws
 pub mod MintLaws

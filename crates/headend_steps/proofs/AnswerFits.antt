@@ -5,7 +5,7 @@ use mathlib.Core.Logic.{_⊎_, inl, inr}
 use mathlib.Core.List.{List, []}
 use Prim.Native.Nat.{ℕ, _+_, _%_, _≤_, _<_}
 use native.Mathlib.Omega.{arith}
-use lib.Dec.{ltb, eqb}
+use lib.Dec.{leb, ltb, eqb}
 use lib.ListN.{length}
 use borrow.Author.Tests.{leb-true, le-leb, le-ltb, ltb-true, eqb-true}
 use Rattle.key_numbers.specs.declared.numbers.AkNumber.{AkNumber}
@@ -103,19 +103,23 @@ module _ (clock : ℕ) (k : Known) (a : Assoc) (digest : Bool) (f : Fields) wher
   unfolding keyAnswer
   reply-is c = rw (c .listed, c .active, c .holds, c .named)
 
--- the record of a Key Reply is one of those in use, within its limits, with the suite that the entry names
+-- the record of a Key Reply is one of those in use, within its limits, with the suite that the entry names, and its newer key's life can be
+-- written
 pub suits-reply : (h : HeadEnd) (len : ℕ) (s : Found) (k : Known) (digest : Bool) (f : Fields) → h .used ≤ len → eqb (f .code) 7 ≡ true
     → Replied (h .clock) k (s .held) digest f → recordSuits h len s k digest f ≡ true
     → (s .at < h .used) × (recordFits (halfIn h) (h .clock) (s .held) ≡ true) × (listsSuite (k .entry .listing) (f .said) (s .held .suite) ≡ true)
+    × (lifeLeft (h .clock) (s .held .newer .deadline) ≤ 604800)
 unfolding recordSuits
 suits-reply h len s k digest f all c w e =
     let t₁ = ltb (s .at) (h .used) in
     let t₂ = recordFits (halfIn h) (h .clock) (s .held) in
     let t₃ = listsSuite (k .entry .listing) (f .said) (s .held .suite) in
-    let g : t₁ && t₂ && t₃ ≡ true = rw (c, reply-is (h .clock) k (s .held) digest f w, le-ltb len (h .used) all) at e in
-    let g₂ = both (t₁ && t₂) t₃ g in
+    let t₄ = leb (lifeLeft (h .clock) (s .held .newer .deadline)) 604800 in
+    let g : (t₁ && t₂ && t₃) && t₄ ≡ true = rw (c, reply-is (h .clock) k (s .held) digest f w, le-ltb len (h .used) all) at e in
+    let g₃ = both (t₁ && t₂ && t₃) t₄ g in
+    let g₂ = both (t₁ && t₂) t₃ (g₃ .0) in
     let g₁ = both t₁ t₂ (g₂ .0) in
-    (ltb-true (s .at) (h .used) (g₁ .0), g₁ .1, g₂ .1)
+    (ltb-true (s .at) (h .used) (g₁ .0), g₁ .1, g₂ .1, leb-true (lifeLeft (h .clock) (s .held .newer .deadline)) 604800 (g₃ .1))
 
 -- ---- what can be written
 writable-by : (f : Fields) (key : List ℕ) (lent : ℕ) → fieldsFit f ≡ true → authKeyFits f (length key) ≡ true
@@ -151,7 +155,7 @@ module _ (key : List ℕ) (lent : ℕ) (room : 342 ≤ lent) where
       (rw (le-leb 1 (length key) few, le-leb (length key) 256 many))
       (reply-most clock i l k key (p .high) many) room
 
-  key-reply-writable : (half clock : ℕ) (a : Assoc) (f : Fields) → InLimits half clock a → 1 ≤ half → half ≤ 302400
+  key-reply-writable : (half clock : ℕ) (a : Assoc) (f : Fields) → InLimits half clock a → 1 ≤ half → lifeLeft clock (a .newer .deadline) ≤ 604800
       → f .ak .0 ≤ 15 → f .said ≤ 16383 → Writable (keyReply clock a f) key lent
   unfolding authKeyFits needs neededOf among
   key-reply-writable half clock a f i some most low small =
@@ -189,7 +193,7 @@ module _ (h : HeadEnd) (bad len : ℕ) (s : Found) (address : ℕ) (digest : Boo
       let i = head-facts h (q .fits) in
       let t = suits-reply h len s known digest (r .fields) (q .records-lent) c w (q .record-suits) in
       key-reply-writable key lent (q .answer-room) (halfIn h) (h .clock) (s .held) (r .fields) (limits-of (halfIn h) (h .clock) (s .held) (t .1))
-      (omega (arith, i .half-low)) (i .half-high) (active-small (h .clock) (r .fields .ak) (known .entry .keys) (w .active)) (leb-true (r .fields .said) 16383 (q .said-fits)))
+      (omega (arith, i .half-low)) (t .3) (active-small (h .clock) (r .fields .ak) (known .entry .keys) (w .active)) (leb-true (r .fields .said) 16383 (q .said-fits)))
 
   answer-writable : Writable (reactionTo h s address digest r .answer) key lent
   unfolding reactionOf

@@ -25,6 +25,7 @@ use Rattle.association.specs.declared.listing.Listing.{Listing}
 use Rattle.association.specs.declared.record.Assoc.{Assoc}
 use Rattle.association.specs.declared.search.Found.{Found}
 use Rattle.association.proofs.RecordLaws.{InLimits}
+use Rattle.headend_state.specs.Authorization.{lifeLeft}
 use Rattle.headend_state.specs.declared.state.AuthKeys.{AuthKeys}
 use Rattle.headend_state.specs.declared.state.HeadEnd.{HeadEnd}
 use Rattle.headend_state.specs.declared.entries.Known.{Known}
@@ -82,12 +83,12 @@ key-reply-shaped clock a f n =
 
 -- ---- a Key Reply
 module _ (key padding : List ℕ) where
-  pub key-reply-read : (half clock : ℕ) (a : Assoc) (f : Fields) → ShapedRecord a → InLimits half clock a → 1 ≤ half → half ≤ 302400
+  pub key-reply-read : (half clock : ℕ) (a : Assoc) (f : Fields) → ShapedRecord a → InLimits half clock a → 1 ≤ half → lifeLeft clock (a .newer .deadline) ≤ 604800
       → f .ak .0 ≤ 15 → f .said ≤ 16383
       → readOf Modem (answerOctets (keyReply clock a f) key ++ padding) ≡ readBack (keyReply clock a f) key
   unfolding receives authKeyFits needs neededOf among
-  key-reply-read half clock a f n i some most low small =
-      answer-read (keyReply clock a f) key padding (key-reply-shaped clock a f n) refl (key-reply-fits half clock a i some most f low small) refl
+  key-reply-read half clock a f n i some short low small =
+      answer-read (keyReply clock a f) key padding (key-reply-shaped clock a f n) refl (key-reply-fits half clock a i some short f low small) refl
 
 -- ---- the answer to a message that is taken
 pub record Sendable (f : Fields) : Type 0 where

@@ -27,18 +27,21 @@ use Rattle.headend_answers.specs.Answers.{keyAnswer, reactionOf}
 
 -- ---- questions
 
--- A part of question 1, where a Key Request gets a Key Reply: the record that was found for its SAID suits
+-- A part of question 1, where a Key Request gets a Key Reply: the record that was found for its SAID suits, and the lives to be written
+-- are within their limit, 604,800 s; the newer's is the longer
 unfoldable pub recordSuits : HeadEnd → ℕ → Found → Known → Bool → Fields → Bool
 recordSuits h len s k digest f =
-    not (eqb (f .code) 7 && eqb (keyAnswer (h .clock) k (s .held) digest f .code) 8) || foundSuits h len s k (f .said)
+    not (eqb (f .code) 7 && eqb (keyAnswer (h .clock) k (s .held) digest f .code) 8)
+    || (foundSuits h len s k (f .said) && leb (keyAnswer (h .clock) k (s .held) digest f .newer .life) 604800)
 
 -- 11: message 12 carries 0
 unfoldable pub identifierFits : Fields → Bool
 identifierFits f = not (eqb (f .code) 12) || eqb (f .identifier) 0
 
 -- With `bad` the place of the first record out of its limits, `len` records lent, `s` what was found for the SAID, and `r` the
--- reading: 1 and 2, then 6 to 9 as the reader answers them, then 11. Of the fields to be written, question 1 asks the SAID: it is
--- the request's own in a Key Reject; that the others are within the limits follows from the state, and the reader asks the SAID too
+-- reading: 1 and 2, then 6 to 9 as the reader answers them, then 11. Of the fields to be written, question 1 asks the lives of a Key Reply and
+-- the SAID, which is the request's own in a Key Reject; that the others are within the limits follows from the state, and the reader asks the
+-- SAID too
 unfoldable pub receiveAnswer : HeadEnd → ℕ → ℕ → Found → ℕ → Bool → Reading → ℕ → ℕ → Answer
 receiveAnswer h bad len s address digest r key lent =
     firstThen

@@ -36,13 +36,15 @@ pub fn read_request(message: &[u8]) -> Reading
     read(Receiver::HeadEnd, message)
 }
 
-// Question 1 of the record that a Key Reply is made from.
+// Question 1 of the record that a Key Reply is made from, and of the lives that it carries.
 fn record_suits(h: HeadEnd, len: usize, s: Found, k: Known, digest: bool, f: Fields) -> bool
     ensures { λ r. ⌜ r ≡ recordSuits h len s k digest f ⌝ }
 {
     let a = s.held;
     let answer = key_answer(h.clock, k, a, digest, f);
-    !((f.code == 7) & (answer.code == 8)) | found_suits(h, len, s, k, f.said)
+    let newer = answer.newer;
+    !((f.code == 7) & (answer.code == 8))
+        | (found_suits(h, len, s, k, f.said) & (newer.life <= 604800))
 }
 
 // Question 11: Authentication Information has Identifier 0.

@@ -46,7 +46,7 @@ use Rattle.plant.specs.KeysMade.{acceptedIf, clockIf}
 use Rattle.plant.proofs.LogLaws.{Log, logsListed, logsTo, grows-same, grows-listed, grows-clocked}
 use Rattle.plant.proofs.MadeRun.{logsBy}
 use Rattle.plant.proofs.Copies.{PairCopied, ParamsSent, ReplySent, FrameOk}
-use Rattle.plant.proofs.HeadOk.{log-at, log-limits, shaped-at}
+use Rattle.plant.proofs.HeadOk.{log-at, log-limits, near, shaped-at}
 use Rattle.plant.proofs.HeadSteps.{list-ok, list-refused-ok, clock-ok, receive-ok, open-ok}
 use Rattle.plant.proofs.Inv.{Inv, Next, next-by, next-to, pairs-grow, nothing-put, nothing-sealed}
 
@@ -163,7 +163,7 @@ module _ {D half own : ℕ} {w : World} {tr : List Did} {gs : List Log} (v : Inv
           there = record { log = r .log; there = r .there; same = ap (λ (x : Assoc). x .said) (sym (r .is)) ∙ q .said-is; width = refl; made = good .older-in };
           number = ap (λ (n : TekNumber). n .0) (q .number ∙ ap (λ (x : Assoc). x .older .number) (r .is));
           out = q .out ∙ ap (λ (x : Assoc). keyOut (widthOf (x .suite)) (x .older)) (r .is);
-          when = inl (refl, limits .ahead, limits .near);
+          when = inl (refl, limits .ahead, near (v .head) (r .log) (r .there));
           said-small = q .range;
           number-small = q .number-range;
           address-small = q .address-fits;

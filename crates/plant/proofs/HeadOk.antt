@@ -1,4 +1,4 @@
--- What holds of the head-end at every step: it is within its limits, its records show the last two keys made of each SAID, and every
+-- What holds of the head-end at every step: it is within its limits, no older deadline is more than H ahead, its records show the last two keys made of each SAID, and every
 -- SAID that an entry lists has its record.
 use mathlib.Core.Path.{_≡_, refl, sym, _∙_, ap, subst}
 use mathlib.Core.Logic.{_⊎_, inl, inr}
@@ -15,6 +15,7 @@ use Rattle.association.specs.declared.record.Assoc.{Assoc}
 use Rattle.association.specs.declared.listing.Listing.{Listing}
 use Rattle.association.specs.declared.search.Probe.the-variants.{OfSaid}
 use Rattle.association.specs.Made.{Made, recordOf}
+use Rattle.association.specs.Record.{Near}
 use Rattle.association.proofs.MadeLaws.{Follows}
 use Rattle.association.proofs.RecordLaws.{InLimits}
 use Rattle.wire.proofs.HoldsLaws.{never}
@@ -27,7 +28,7 @@ use Rattle.headend_state.specs.Entries.{entriesOf, knownOf, lists, listsAt, lis
 use Rattle.headend_limits.proofs.ListingLaws.{listed-at}
 use Rattle.headend_limits.proofs.LimitsLaws.{known-place, known-in, entry-facts}
 use Rattle.headend_steps.proofs.AnswersRead.{ShapedRecord}
-use Rattle.headend_rules.specs.Within.{Within, Recorded}
+use Rattle.headend_rules.specs.Within.{Within, AllNear, Recorded}
 use Rattle.headend_rules.proofs.WithinLaws.{within-record}
 use Rattle.headend_rules.proofs.MintLaws.{Shows}
 use Rattle.plant.proofs.LogLaws.{Log, linesIn}
@@ -40,6 +41,7 @@ ShapedMade k = (length (k .tek) ≡ 16) × (length (k .vector) ≡ 16)
 
 pub record HeadOk (half : ℕ) (h : HeadEnd) (xs : List Assoc) (gs : List Log) : Type 0 where
   pub within : Within h xs
+  pub all-near : AllNear h xs
   pub shows : Shows half h xs (linesIn gs)
   pub good : Each (λ (g : Log). Follows half (g .made) (g .line)) gs
   pub differ : Different (saidsIn gs)
@@ -100,7 +102,10 @@ module _ {half : ℕ} {h : HeadEnd} {xs : List Assoc} {gs : List Log} (ok : Head
       (subst (λ (n : ℕ). InLimits n (h .clock) (getD xs (u .place) none)) (ok .shows .half-is) (within-record h xs (ok .within) (u .place) (u .inside)))
 
   pub near : Each (λ (g : Log). g .line .older .deadline ≤ h .clock + half) gs
-  near g i = log-limits g i .near
+  near g i =
+      let u = in-use g i in
+      subst (Near half (h .clock)) (u .is)
+      (subst (λ (n : ℕ). Near n (h .clock) (getD xs (u .place) none)) (ok .shows .half-is) (ok .all-near (u .place) (u .inside)))
 
   pub shaped-at : (i : ℕ) → i < h .used → ShapedRecord (getD xs i none)
   shaped-at i less =

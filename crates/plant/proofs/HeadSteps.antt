@@ -31,7 +31,8 @@ use Rattle.headend_rules.specs.Within.{Within}
 use Rattle.headend_frames.specs.FrameCalls.{openOf}
 use Rattle.headend_rules.proofs.CallsLaws.{AskedList, list-met}
 use Rattle.headend_rules.proofs.KeptLimits.{new-within, list-within, clock-within, receive-within}
-use Rattle.headend_rules.proofs.StateLaws.{list-state, clock-state}
+use Rattle.headend_rules.proofs.NearLaws.{fresh-all-near, base-near, list-near, clock-near, receive-near}
+use Rattle.headend_rules.proofs.StateLaws.{SameBase, list-state, clock-state}
 use Rattle.headend_rules.proofs.MintLaws.{Shows, shows-same, list-shows, clock-shows, receive-shows, fresh-shows}
 use Rattle.headend_rules.proofs.Refused.{list-refused-same}
 use Rattle.headend.proofs.FrameAnswers.{same-within, open-same}
@@ -49,6 +50,7 @@ fresh-ok settings xs fits =
     let same : newOf settings .state ≡ freshOf settings = rw fits in
     record {
       within = subst (λ (h : HeadEnd). Within h xs) same (new-within settings done xs);
+      all-near = fresh-all-near settings xs;
       shows = fresh-shows settings xs;
       good = each-nil _;
       differ = tt;
@@ -99,6 +101,7 @@ module _ {half : ℕ} {h : HeadEnd} {xs : List Assoc} {gs : List Log} (ok : Head
           let state : listOf h xs address allowed l m .state ≡ grown h address allowed l = list-state h xs address allowed l m done in
           record {
             within = list-within h xs address allowed l m (ok .within);
+            all-near = list-near h xs address allowed l m (ok .within) (ok .all-near);
             shows = subst (λ (ls : List Line). Shows half (listOf h xs address allowed l m .state) (listRecords h xs address allowed l m) ls) (sym lines) (list-shows address allowed l m (ok .shows) done);
             good = each-append (λ (g : Log). Follows half (g .made) (g .line)) gs new (ok .good) (listed-good half (h .clock) m 0 (namedPairs l));
             differ = list-different;
@@ -119,6 +122,7 @@ module _ {half : ℕ} {h : HeadEnd} {xs : List Assoc} {gs : List Log} (ok : Head
         let state : clockOf h xs t m .state ≡ withClock h t = clock-state h xs t m done in
         record {
           within = clock-within h xs t m (ok .within);
+          all-near = clock-near h xs t m (ok .within) (ok .all-near);
           shows = subst (λ (ls : List Line). Shows half (clockOf h xs t m .state) (clockRecords h xs t m) ls) (sym (lines-to half t m 0 gs)) (clock-shows t m (ok .shows) done);
           good = to-good half t m 0 gs (ok .good);
           differ = subst Different (sym (saids-clocked half t m 0 gs)) (ok .differ);
@@ -135,6 +139,7 @@ module _ {half : ℕ} {h : HeadEnd} {xs : List Assoc} {gs : List Log} (ok : Head
       (λ listed. (rekeyed-logged h gs (ok .logged) address listed, length-set (h .entries) (knownOf h address .at) _ ∙ ok .sixteen)) in
       record {
         within = receive-within h xs (ok .within) address digest s key lent;
+        all-near = receive-near h xs address digest s key lent (ok .all-near);
         shows = receive-shows address digest s key lent (ok .shows);
         good = ok .good;
         differ = ok .differ;
@@ -147,9 +152,11 @@ module _ {half : ℕ} {h : HeadEnd} {xs : List Assoc} {gs : List Log} (ok : Head
   open-ok direction address said number tek vector lent =
       let o = openOf h xs direction address said number tek vector lent .state in
       let same = open-same h xs direction address said number tek vector lent in
+      let base : SameBase h o = record { settings = same .settings; clock = same .clock; used = same .used } in
       record {
         within = same-within h o same xs (ok .within);
-        shows = shows-same o (record { settings = same .settings; clock = same .clock; used = same .used }) (ok .shows);
+        all-near = base-near h o xs base (ok .all-near);
+        shows = shows-same o base (ok .shows);
         good = ok .good;
         differ = ok .differ;
         logged = subst (EntriesLogged gs) (sym (ap (λ (n : ℕ). take n (o .entries)) (same .modems) ∙ ap (take (h .modems)) (same .entries))) (ok .logged);
