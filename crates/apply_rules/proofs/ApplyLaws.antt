@@ -11,6 +11,7 @@ use Rattle.keys.specs.declared.sealing.SealedCall.{SealedCall}
 use Rattle.keys.specs.Octets.{overlay}
 use Rattle.questions.specs.Questions.{firstNo}
 use Rattle.questions.specs.Refusal.{answerNumber, isDone}
+use Rattle.questions.proofs.AnswerLaws.{is-done}
 use Rattle.keys.specs.Sealing.{sealCalled}
 use Rattle.association.specs.declared.listing.Listing.{Listing}
 use Rattle.association.specs.declared.record.Assoc.{Assoc}
@@ -34,12 +35,12 @@ use Rattle.modem_steps.specs.Clock.{clocked}
 use Rattle.modem_receive.specs.Receive.{receiveQuestions, received, fieldsIn}
 use Rattle.modem_frame_rules.specs.declared.rules.OpenedCall.{OpenedCall as ModemOpenedCall}
 use Rattle.modem.specs.Calls as Mdm
-use Rattle.modem.specs.Calls.{resultOf, firstQuestions, clockQuestions, eventOf, clockOf, receiveOf}
+use Rattle.modem.specs.Calls.{resultOf, firstQuestions, clockAnswer, eventOf, clockOf, receiveOf}
 use Rattle.modem_frames.specs.Frames as ModemFrames
 use Rattle.modem_frames.specs.FrameCalled.{openCalled as modemOpenCalled}
 use Rattle.calls.specs.declared.Kind.{Kind}
 use Rattle.calls.specs.declared.Call.{Call}
-use Rattle.plant.specs.World.{list, clock, established, reauth, up, down, sealDown, sealUp, openUp, openDown, clockedBy}
+use Rattle.plant.specs.World.{list, clock, established, reauth, up, down, sealDown, sealUp, openUp, openDown, clockedBy, earliest}
 use Rattle.plant.specs.Demand3.{clockWrote}
 use Rattle.apply_rules.specs.declared.ends.Ends.{Ends}
 use Rattle.apply_rules.specs.declared.ends.Applied.{Applied}
@@ -148,6 +149,15 @@ none-written : (a : Answer) (m : Modem) (w : Work) → resultOf a m w .written �
 none-written Done m w = refl
 none-written (Refused r) m w = refl
 
+result-answer : (a : Answer) (m : Modem) (w : Work) → a ≡ resultOf a m w .called .answer
+result-answer Done m w = refl
+result-answer (Refused r) m w = refl
+
+-- the modem's questions alone tell what its clock call answers
+pub clock-answered : (m : Modem) (t lent : ℕ) → clockAnswer m t lent ≡ clockOf m t lent .called .answer
+unfolding clockOf
+clock-answered m t lent = result-answer (clockAnswer m t lent) m (clocked m t)
+
 module _ (e : Ends) (t : ℕ) (m : List ℕ) (lent : ℕ) where
   abbrev headCalled : Called
   headCalled = Head.clockOf (e .head) (e .records) t m
@@ -155,22 +165,31 @@ module _ (e : Ends) (t : ℕ) (m : List ℕ) (lent : ℕ) where
   abbrev modemResult : Mdm.Result
   modemResult = Mdm.clockOf (e .modem) t lent
 
-  -- plant's step, by whether each end accepts
-  abbrev bothOf : Bool → Bool → Applied
-  bothOf a b =
+  abbrev headNumber : ℕ
+  headNumber = answerNumber (headCalled .answer)
+
+  abbrev modemNumber : ℕ
+  modemNumber = answerNumber (modemResult .called .answer)
+
+  -- plant's step with its number, by whether each end accepts
+  abbrev bothOf : ℕ → Bool → Bool → Applied
+  bothOf n a b =
       record {
-        number = cond a (answerNumber (modemResult .called .answer)) (answerNumber (headCalled .answer));
+        number = n;
         key = record { 0 = 0 };
         width = 0;
         count = length (clockWrote (a && b) (worldOf e) t lent);
         ends = endsOf (clockedBy (a && b) (worldOf e) t m lent);
       }
 
-  pub clock-head-refused : (c : Called) (n : ℕ) (r : Applied) (out : List ℕ)
-      → r ≡ refusedOf n e → n ≡ answerNumber (c .answer) → c ≡ headCalled → isDone (c .answer) ≡ false
+  -- the head-end refuses: the number of the earlier question, a and b being those of the ends
+  pub clock-head-refused : (c : Called) (n a b : ℕ) (r : Applied) (out : List ℕ)
+      → r ≡ refusedOf n e → n ≡ earliest a b → a ≡ answerNumber (c .answer) → b ≡ answerNumber (modemResult .called .answer) → c ≡ headCalled → isDone (c .answer) ≡ false
       → (r ≡ appliedOf (worldOf e) (clock t m lent)) × (out ≡ overlay out (gaveOf (worldOf e) (clock t m lent) .sent))
-  clock-head-refused c n r out p q s d = (
-    p ∙ ap (λ k. refusedOf k e) (q ∙ ap (λ (y : Called). answerNumber (y .answer)) s) ∙ ap (λ b. bothOf b (isDone (modemResult .called .answer))) (sym no),
+  clock-head-refused c n a b r out p f q g s d = (
+    p ∙ ap (λ k. refusedOf k e)
+        (f ∙ ap (λ k. earliest k b) (q ∙ ap (λ (y : Called). answerNumber (y .answer)) s) ∙ ap (earliest headNumber) g)
+        ∙ ap (λ x. bothOf (earliest headNumber modemNumber) x (isDone (modemResult .called .answer))) (sym no),
     ap (λ b. overlay out (clockWrote (b && isDone (modemResult .called .answer)) (worldOf e) t lent)) (sym no),
   )
     where
@@ -178,7 +197,7 @@ module _ (e : Ends) (t : ℕ) (m : List ℕ) (lent : ℕ) where
       no = sym (ap (λ (y : Called). isDone (y .answer)) s) ∙ d
 
   modem-part : (b : Bool) → modemResult .called .count ≡ length (modemResult .written)
-      → clockedOf b (modemResult .called) e (headCalled .state) (Head.clockRecords (e .head) (e .records) t m) ≡ bothOf true b
+      → clockedOf b (modemResult .called) e (headCalled .state) (Head.clockRecords (e .head) (e .records) t m) ≡ bothOf modemNumber true b
   modem-part true k = ap (λ n. quietOf (answerNumber (modemResult .called .answer)) n (headCalled .state) (Head.clockRecords (e .head) (e .records) t m) (modemResult .called .modem)) k
   modem-part false k = refl
 
@@ -188,11 +207,11 @@ module _ (e : Ends) (t : ℕ) (m : List ℕ) (lent : ℕ) where
 
   clock-count : modemResult .called .count ≡ length (modemResult .written)
   unfolding clockOf
-  clock-count = modem-count (firstNo (firstQuestions (e .modem) lent ++ clockQuestions (e .modem) t)) (e .modem) (clocked (e .modem) t)
+  clock-count = modem-count (clockAnswer (e .modem) t lent) (e .modem) (clocked (e .modem) t)
 
   clock-wrote : modemResult .written ≡ cond (isDone (modemResult .called .answer)) (modemResult .written) []
   unfolding clockOf
-  clock-wrote = none-written (firstNo (firstQuestions (e .modem) lent ++ clockQuestions (e .modem) t)) (e .modem) (clocked (e .modem) t)
+  clock-wrote = none-written (clockAnswer (e .modem) t lent) (e .modem) (clocked (e .modem) t)
 
   pub clock-both : (c : Called) (records : List Assoc) (r : Applied) (out after : List ℕ)
       → r ≡ clockedWith (modemResult .called) e (c .state) records → after ≡ overlay out (modemResult .written)
@@ -201,7 +220,8 @@ module _ (e : Ends) (t : ℕ) (m : List ℕ) (lent : ℕ) where
   clock-both c records r out after p q s u d = (
     p ∙ ap (λ (y : Called). clockedWith (modemResult .called) e (y .state) records) s
         ∙ ap (clockedWith (modemResult .called) e (headCalled .state)) u ∙ modem-part (isDone (modemResult .called .answer)) clock-count
-        ∙ ap (λ b. bothOf b (isDone (modemResult .called .answer))) (sym yes′),
+        ∙ ap (λ x. bothOf modemNumber x (isDone (modemResult .called .answer))) (sym yes′)
+        ∙ ap (λ k. bothOf (earliest k modemNumber) (isDone (headCalled .answer)) (isDone (modemResult .called .answer))) (sym (ap answerNumber (is-done (headCalled .answer) yes′))),
     q ∙ ap (overlay out) (clock-wrote ∙ modem-wrote (isDone (modemResult .called .answer)))
         ∙ ap (λ b. overlay out (clockWrote (b && isDone (modemResult .called .answer)) (worldOf e) t lent)) (sym yes′),
   )

@@ -1,5 +1,6 @@
 // Both ends and the records by value, and what applying a call hands back.
 ghost use mathlib.Core.Path.{_≡_};
+ghost use Rattle.plant.specs.World.{earliest};
 ghost use Rattle.apply_rules.specs.Applied.{quietOf, refusedOf};
 use association::record::Assoc;
 use headend_state::state::HeadEnd;
@@ -51,4 +52,17 @@ pub fn refused(number: u8, e: Ends) -> Applied
         count: 0,
         ends: e,
     }
+}
+
+// The number of a clock call from those of both ends: that of the earlier question, 0 being none.
+pub fn earlier_number(a: u8, b: u8) -> u8
+    ensures { λ r. ⌜ r ≡ earliest a b ⌝ }
+{
+    if a == 0 {
+        return b;
+    }
+    if b == 0 {
+        return a;
+    }
+    if a <= b { a } else { b }
 }

@@ -1,6 +1,6 @@
 -- What a call gives, by the first question that is not met and where all are met.
 use mathlib.Core.Path.{_≡_, refl, sym, _∙_, ap, subst}
-use mathlib.Core.Bool.{Bool, true, false, cond, _&&_, and-false}
+use mathlib.Core.Bool.{Bool, true, false, cond, _&&_}
 use mathlib.Core.List.{List, [], _∷_, _++_}
 use Prim.Native.Nat.{ℕ, _≤_, _<_}
 use native.Mathlib.Omega.{arith}
@@ -8,7 +8,7 @@ use borrow.Author.Tests.{le-leb, lt-leb}
 use Rattle.questions.specs.declared.refusal.Answer.{Answer}
 use Rattle.questions.specs.declared.refusal.Answer.the-variants.{Done, Refused}
 use Rattle.questions.specs.declared.refusal.Refusal.{Refusal}
-use Rattle.questions.specs.declared.refusal.Refusal.the-variants.{OutOfLimits, WrongLength, ClockOutOfOrder, CutMessage, CodeNotReceived, BadAttribute, WrongAttributes, UnknownSaid, WrongIdentifier, DigestFails}
+use Rattle.questions.specs.declared.refusal.Refusal.the-variants.{OutOfLimits, WrongLength, CutMessage, CodeNotReceived, BadAttribute, WrongAttributes, UnknownSaid, WrongIdentifier, DigestFails}
 use Rattle.keys.specs.Octets.{overlay}
 use Rattle.questions.specs.Questions.{Question, firstNo}
 use Rattle.questions.specs.Refusal.{isDone}
@@ -27,7 +27,7 @@ use Rattle.modem_limits.specs.Limits.{modemFits}
 use Rattle.modem_steps.specs.State.{starting}
 use Rattle.modem_steps.specs.Machine.{plainEvent}
 use Rattle.modem.specs.Messages.{outOctets, OutFits}
-use Rattle.modem.specs.Calls.{resultOf, refusedCall, answeredCall, doneCall, firstQuestions, clockFits}
+use Rattle.modem.specs.Calls.{resultOf, refusedCall, answeredCall, doneCall, firstQuestions}
 
 -- ---- what is given for an answer
 module _ (m : Modem) (lent : List ℕ) (answer : Answer) (w : Work) where
@@ -54,26 +54,6 @@ module _ (m : Modem) (lent : ℕ) (qs : List Question) where
 
   pub first-met : modemFits m ≡ true → 216 ≤ lent → firstNo (firstQuestions m lent ++ qs) ≡ firstNo qs
   first-met e long = simp (e, le-leb 216 lent long)
-
--- ---- question 3
-module _ (m : Modem) (t : ℕ) where
-  pub clock-early : t < m .clock → clockFits m t ≡ false
-  unfolding clockFits
-  clock-early early = simp (lt-leb (m .clock) t early)
-
-  pub clock-late : 1000000000000 < t → clockFits m t ≡ false
-  unfolding clockFits
-  clock-late late = simp (lt-leb t 1000000000000 late, and-false)
-
-  pub clock-met : m .clock ≤ t → t ≤ 1000000000000 → clockFits m t ≡ true
-  unfolding clockFits
-  clock-met on small = simp (le-leb (m .clock) t on, le-leb t 1000000000000 small)
-
-pub clock-no : (b : Bool) → b ≡ false → firstNo (record { refusal = ClockOutOfOrder; met = b } ∷ []) ≡ Refused ClockOutOfOrder
-clock-no b e = simp e
-
-pub clock-yes : (b : Bool) → b ≡ true → firstNo (record { refusal = ClockOutOfOrder; met = b } ∷ []) ≡ Done
-clock-yes b e = simp e
 
 -- ---- a reading
 pub read-fields : (e : Receiver) (s : List ℕ) → messageAnswer e s ≡ Done → readOf e s .fields ≡ fieldsIn s

@@ -35,12 +35,12 @@ use Rattle.modem.proofs.KeptMessages.{fresh-fits, plain-fits, clocked-f
 abbrev pub clockQuestions : Modem → ℕ → ℕ → List Question
 clockQuestions m t lent = firstQuestions m lent ++ (record { refusal = ClockOutOfOrder; met = clockFits m t } ∷ [])
 
-pub clock-asked : (m : Modem) (t lent : ℕ) → firstNo (clockQuestions m t lent) ≡ Done → (modemFits m ≡ true) × (m .clock ≤ t) × (t ≤ 1000000000000)
+pub clock-asked : (m : Modem) (t lent : ℕ) → firstNo (clockQuestions m t lent) ≡ Done → (modemFits m ≡ true) × (m .clock ≤ t) × (t ≤ 1000000000000) × (216 ≤ lent)
 unfolding clockFits
 clock-asked m t lent e =
     let h = done-met (clockQuestions m t lent) e in
     let c = both (leb (m .clock) t) (leb t 1000000000000) (h .1 .1 .0) in
-    (h .0, leb-true (m .clock) t (c .0), leb-true t 1000000000000 (c .1))
+    (h .0, leb-true (m .clock) t (c .0), leb-true t 1000000000000 (c .1), leb-true 216 lent (h .1 .0))
 
 -- questions 1 to 12 of a message
 pub record Asked (m : Modem) (s : List ℕ) (digest : Bool) : Type 0 where

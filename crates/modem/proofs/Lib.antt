@@ -23,3 +23,4 @@ pub mod SentRead
 pub mod SentUp
 pub mod SentCalls
 pub mod CallMessages
+pub mod ReceivedWritten

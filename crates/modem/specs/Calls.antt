@@ -75,8 +75,11 @@ clockFits m t = leb (m .clock) t && leb t 1000000000000
 abbrev pub clockQuestions : Modem → ℕ → List Question
 clockQuestions m t = record { refusal = ClockOutOfOrder; met = clockFits m t } ∷ []
 
+abbrev pub clockAnswer : Modem → ℕ → ℕ → Answer
+clockAnswer m t lent = firstNo (firstQuestions m lent ++ clockQuestions m t)
+
 unfoldable pub clockOf : Modem → ℕ → ℕ → Result
-clockOf m t lent = resultOf (firstNo (firstQuestions m lent ++ clockQuestions m t)) m (clocked m t)
+clockOf m t lent = resultOf (clockAnswer m t lent) m (clocked m t)
 
 unfoldable pub receiveOf : Modem → List ℕ → Bool → ℕ → Result
 receiveOf m s digest lent = resultOf (firstNo (firstQuestions m lent ++ receiveQuestions m s digest)) m (received m (fieldsIn s))

@@ -5,7 +5,7 @@ ghost use Prim.Native.Nat.{_≤_};
 ghost use lib.ListN.{length};
 ghost use Rattle.keys.specs.Octets.{overlay};
 ghost use Rattle.modem.specs.Messages.{outOctets, OutFits};
-ghost use Rattle.modem.specs.Calls.{refusedCall, answeredCall, doneCall, newOf, eventOf, establishedOf, reauthOf, clockOf, receiveOf};
+ghost use Rattle.modem.specs.Calls.{refusedCall, answeredCall, doneCall, newOf, eventOf, establishedOf, reauthOf, clockAnswer, clockOf, receiveOf};
 use crate::messages::put_out;
 use modem_clock::clock::clocked;
 use modem_limits::limits::modem_fits;
@@ -21,6 +21,7 @@ use modem_steps::state::fresh;
 use modem_steps::state::start;
 use questions::refusal::Answer;
 use questions::refusal::Refusal;
+use questions::refusal::ask;
 use questions::refusal::is_done;
 use questions::settings::Settings;
 use questions::settings::no_settings;
@@ -38,7 +39,7 @@ fn refused(m: Modem, r: Refusal) -> Called
     }
 }
 
-// A refusal as the reader gave it.
+// A refusal as a part of the call gave it.
 fn answered(m: Modem, a: Answer) -> Called
     ensures { λ c. ⌜ c ≡ answeredCall a m ⌝ }
 {
@@ -109,22 +110,24 @@ pub fn reauth(m: Modem, out: &mut [u8]) -> Called
     event_call(m, 8, out)
 }
 
+// The questions of the clock call alone, with `lent` octets for messages.
+pub fn clock_answer(m: Modem, t: u64, lent: usize) -> Answer
+    ensures { λ a. ⌜ a ≡ clockAnswer m t lent ⌝ }
+{
+    let q3 = (m.clock <= t) & (t <= 1000000000000);
+    let a3 = ask(q3, Refusal::ClockOutOfOrder, Answer::Done);
+    let a2 = ask(216 <= lent, Refusal::WrongLength, a3);
+    ask(modem_fits(m), Refusal::OutOfLimits, a2)
+}
+
 // The clock goes to `t`.
 pub fn clock(m: Modem, t: u64, out: &mut [u8]) -> Called
     ensures { λ c. ⌜ (c ≡ clockOf m t (length (now (out .entry))) .called)
         × (now (out .exit) ≡ overlay (now (out .entry)) (clockOf m t (length (now (out .entry))) .written)) ⌝ }
 {
-    if !modem_fits(m) {
-        return refused(m, Refusal::OutOfLimits);
-    }
-    if out.len() < 216 {
-        return refused(m, Refusal::WrongLength);
-    }
-    if t < m.clock {
-        return refused(m, Refusal::ClockOutOfOrder);
-    }
-    if 1000000000000 < t {
-        return refused(m, Refusal::ClockOutOfOrder);
+    let a = clock_answer(m, t, out.len());
+    if !is_done(a) {
+        return answered(m, a);
     }
     let w = clocked(m, t);
     done(w, out)

@@ -3,7 +3,8 @@ use mathlib.Core.Path.{_≡_}
 use mathlib.Core.Logic.{inl, inr}
 use mathlib.Core.Bool.{true}
 use mathlib.Core.List.{List, [], _∷_, _++_}
-use Prim.Native.Nat.{ℕ, _+_, _*_, _≤_}
+use Prim.Native.Nat.{ℕ, zero, suc, _+_, _*_, _≤_}
+use lib.ListN.{take}
 use Rattle.questions.specs.declared.settings.Settings.{Settings}
 use Rattle.questions.specs.Settings.{settingsFit}
 use Rattle.association.specs.declared.record.Assoc.{Assoc}
@@ -14,6 +15,7 @@ use Rattle.plant.specs.Demand3.{Demand3, Sent, sentBy, AsTold, AllAsTold
 use Rattle.plant.proofs.Theorem.{frames-agree}
 use Rattle.plant.proofs.Struck.{keys-alone}
 use Rattle.plant.proofs.Records.{records-show}
+use Rattle.plant.proofs.Seconds.{seconds-told}
 
 -- ---- a list as document 01 tells it counts
 told-allowed : (D F : ℕ) (sent : List Sent) (earlier : List Did) (w : World) (s : Step) → AsTold D F sent earlier w s → Allowed D earlier w s
@@ -34,6 +36,12 @@ told-counts D F [] sent earlier w t = tt
 told-counts D F (s ∷ ss) sent earlier w t =
     (told-allowed D F sent earlier w s (t .0), told-counts D F ss (sent ++ sentBy w s) (earlier ++ (didOf w s ∷ [])) (after w s) (t .1))
 
+-- ---- a prefix of a list that counts does
+prefix-counts : (D : ℕ) (ss : List Step) (n : ℕ) (earlier : List Did) (w : World) → Counts D earlier w ss → Counts D earlier w (take n ss)
+prefix-counts D ss zero earlier w c = tt
+prefix-counts D [] (suc n) earlier w c = tt
+prefix-counts D (s ∷ ss) (suc n) earlier w c = (c .0, prefix-counts D ss n (earlier ++ (didOf w s ∷ [])) (after w s) (c .1))
+
 module _ (settings : Settings) (address said : ℕ) (records : List Assoc) (fits : settingsFit settings ≡ true) (address-fits : addressFits address ≡ true) (said-fits : said ≤ 16383)
     (D F : ℕ) (bound : D + F ≤ 7 * settings .tek .life) (ss : List Step) where
   -- for every list that counts
@@ -42,7 +50,8 @@ module _ (settings : Settings) (address said : ℕ) (records : List Assoc) (fits
       record {
         frames = frames-agree settings address said records fits address-fits said-fits D F bound ss counts;
         made = keys-alone settings address said records fits address-fits said-fits D ss counts;
-        shown = records-show settings address said records fits address-fits said-fits D ss counts;
+        shown = λ n. records-show settings address said records fits address-fits said-fits D (take n ss) (prefix-counts D ss n [] (fresh settings address said records) counts);
+        seconds = seconds-told settings address said records ss;
       }
 
   -- and so for document 01's own

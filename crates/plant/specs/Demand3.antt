@@ -19,9 +19,15 @@ use Rattle.modem_frames.specs.Frames as ModemFrames
 use Rattle.plant.specs.World.{World, fresh, Step, list, clock, established, reauth, up, down, sealDown, sealUp, openUp, openDown, Frame, Opening, stepOf, clockAnswers}
 use Rattle.plant.specs.Run.{Did, didOf, after, worldAfter, Copy}
 use Rattle.plant.specs.Claim.{Delivers, Agrees}
-use Rattle.plant.specs.KeysMade.{ShowsLast, acceptedBy, struck}
+use Rattle.plant.specs.KeysMade.{ShowsLast, SecondsTold, acceptedBy, struck}
 
 -- ---- the claim about a list, run from the fresh pair
+--
+-- The parts work together. Part 1 rules out a frame that is opened with another key than its own, also one of the same number; by itself it would
+-- let the head-end make a key for a resent request, as long as no frame meets the two. Part 2 rules out that anything but a listing or the clock
+-- counts as making a key; by itself it says nothing of what the records hold, and would let an engine put keys there unseen. Part 3 rules
+-- that out: after every prefix of the list the records in use hold the last two keys made of each SAID, and so never any other, not even for
+-- the time of one step. Part 4 rules out that a key made depends on an end's state: the second that a listing's keys are made at is told by the list.
 pub record Demand3 (settings : Settings) (address said : ℕ) (records : List Assoc) (F : ℕ) (ss : List Step) : Type 0 where
   -- 1. each frame that is delivered at most F seconds after its sealing is opened with the very octets that the sealing gave, or is
   -- refused with 13 or 10
@@ -29,10 +35,12 @@ pub record Demand3 (settings : Settings) (address said : ℕ) (records : List As
   -- 2. the keys made by the list are those made by its listings and clock calls alone, each list with its own answers
   pub made : keysMade (halfOf (settings .tek)) (acceptedBy (fresh settings address said records) ss)
       ≡ keysMade (halfOf (settings .tek)) (acceptedBy (fresh settings address said records) (struck ss))
-  -- 3. after the last step the records in use are those of the SAIDs listed, in order, and each record's older and newer are its SAID's
-  -- last two keys made, in number, deadline, TEK and vector
-  pub shown : ShowsLast (halfOf (settings .tek)) (acceptedBy (fresh settings address said records) ss)
-      (worldAfter (fresh settings address said records) ss .head) (worldAfter (fresh settings address said records) ss .records)
+  -- 3. after every prefix of the list, the whole list among them, the records in use are those of the SAIDs listed, in order, and each record's
+  -- older and newer are its SAID's last two keys made, in number, deadline, TEK and vector
+  pub shown : (n : ℕ) → ShowsLast (halfOf (settings .tek)) (acceptedBy (fresh settings address said records) (take n ss))
+      (worldAfter (fresh settings address said records) (take n ss) .head) (worldAfter (fresh settings address said records) (take n ss) .records)
+  -- 4. each accepted listing's second is that of the last accepted clock call before it, and 0 where there is none
+  pub seconds : SecondsTold 0 (acceptedBy (fresh settings address said records) ss)
 
 -- ---- document 01's lists
 

@@ -1,6 +1,6 @@
 -- The keys made by a list of steps (document 01, "The steps of demand 3"): worked out by the minting rules from the accepted listings and clock
 -- calls with their lent material alone, from no record and no end's state but for which calls were accepted. A listing's second is read off the
--- head-end's clock; it is that of the last accepted clock call before it, or 0 (`SecondsTold` below, `seconds-told` in proofs/Seconds.antt).
+-- head-end's clock; it is that of the last accepted clock call before it, or 0 (`SecondsTold` below, a part of the claim).
 use mathlib.Core.Path.{_≡_}
 use mathlib.Core.Bool.{Bool, true, false}
 use mathlib.Core.List.{List, [], _∷_, _++_, map}

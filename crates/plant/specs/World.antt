@@ -124,8 +124,9 @@ clockedBy true w t m lent =
     }
 clockedBy false w t m lent = w
 
-abbrev pub firstNumber : Answer → Answer → ℕ
-firstNumber a b = cond (isDone a) (answerNumber b) (answerNumber a)
+-- Of the two ends' numbers that of the earlier question; 0 is no refusal
+abbrev pub earliest : ℕ → ℕ → ℕ
+earliest a b = cond (eqb a 0) b (cond (eqb b 0) a (cond (leb a b) a b))
 
 abbrev pub clockAnswers : World → ℕ → List ℕ → ℕ → Bool
 clockAnswers w t m lent =
@@ -165,7 +166,7 @@ stepOf w (list address allowed l m) =
 stepOf w (clock t m lent) =
     record {
       world = clockedBy (clockAnswers w t m lent) w t m lent;
-      given = answered (firstNumber (Head.clockOf (w .head) (w .records) t m .answer) (Mdm.clockOf (w .modem) t lent .called .answer)) [];
+      given = answered (earliest (answerNumber (Head.clockOf (w .head) (w .records) t m .answer)) (answerNumber (Mdm.clockOf (w .modem) t lent .called .answer))) [];
     }
 stepOf w (established lent) =
     record {
