@@ -1,51 +1,48 @@
 -- Each row of the table of edges holds.
-use mathlib.Core.Path.{_≡_, refl}
-use Rattle.wire.specs.declared.fields.Params.{Params}
-use Rattle.wire.proofs.Vectors.{read-I6, number-103, number-107}
-use Rattle.tek_machine.specs.declared.tek.Tek.{Tek}
-use Rattle.tek_machine.specs.declared.tek.TekMoment.{TekMoment}
-use Rattle.machines.specs.Transitions.{C, D, F, nextIn, tekTransitions, authorizationTransitions}
-use Rattle.tek_parts.specs.TekParts.{noPair, nothing}
-use Rattle.tek_machine.specs.Tek.{tekStays, tekStepOf, tekMoved, tekSends, identifierAfter, pairAfter}
-use Rattle.authorization_machine.specs.declared.authorization.Authorization.{Authorization}
-use Rattle.authorization_machine.specs.declared.authorization.AuthMoment.{AuthMoment}
-use Rattle.authorization_machine.specs.Authorization.{authIdentifier, requestsOf, authMoved, authStepOf}
+use mathlib.Core.Path.{_≡_, refl, sym, _∙_, ap}
+use mathlib.Core.List.{List}
+use Prim.Native.Nat.{ℕ}
+use lib.ListN.{set, take}
+use Rattle.questions.specs.declared.refusal.Answer.the-variants.{Done, Refused}
+use Rattle.questions.specs.declared.refusal.Refusal.{Refusal}
+use Rattle.questions.specs.declared.refusal.Refusal.the-variants.{CutMessage, BadAttribute}
+use Rattle.questions.specs.Refusal.{numberOf, answerNumber}
+use Rattle.wire.specs.declared.fields.Reading.{Reading}
+use Rattle.wire.specs.declared.fields.Receiver.the-variants.{Modem as AtModem}
+use Rattle.wire.specs.Fields.{noFields}
+use Rattle.wire.specs.Messages.{readerAnswer}
+use Rattle.wire.specs.Reading.{noPlace, readOf, readerOf}
+use Rattle.wire.specs.Vectors.{replyI6}
+use Rattle.wire.proofs.MessageAnswers.{read-answer, reader-done, reader-refused, reader-answer, reader-reads}
+use Rattle.wire.proofs.Vectors.{read-I6, read-103, read-107, number-103, number-107}
+use Rattle.machines.specs.Transitions.{nextIn, authorizationTransitions}
 use Rattle.association.specs.Roll.{rolledOf}
 use Rattle.association.specs.Listing.{freshOf}
 use Rattle.edges.specs.Edges.{Edges}
+use Rattle.edges.proofs.Minting.{minting}
+use Rattle.edges.proofs.Steps.{in-d, in-f, in-f-keys, in-f-sends, in-c, key-after, auth-after}
+use Rattle.edges.proofs.Received.{received-rows}
+use Rattle.edges.proofs.Numbered.{numbered}
 
-in-d : (t : Tek) (x : TekMoment) (older newer : Params) → t .state ≡ D → tekStepOf t 8 x older newer ≡ tekStays t x
-unfolding tekStepOf nextIn tekTransitions
-in-d t x older newer e = simp e
+-- I.6 by the reader by itself
+i6-reader : readerAnswer AtModem replyI6 ≡ Done
+i6-reader = reader-done AtModem replyI6 .1 (sym (read-answer AtModem replyI6) ∙ ap (λ (r : Reading). r .answer) read-I6, refl)
 
-in-f : (t : Tek) (x : TekMoment) (older newer : Params) → t .state ≡ F → tekStepOf t 5 x older newer .machine .state ≡ C
-unfolding tekStepOf tekMoved nextIn tekTransitions
-in-f t x older newer e = simp e
-
-in-f-keys : (t : Tek) (x : TekMoment) (older newer : Params) → t .state ≡ F → tekStepOf t 5 x older newer .machine .pair ≡ noPair
-unfolding tekStepOf tekMoved pairAfter nextIn tekTransitions
-in-f-keys t x older newer e = simp e
-
-in-f-sends : (t : Tek) (x : TekMoment) (older newer : Params) → t .state ≡ F → tekStepOf t 5 x older newer .sends ≡ nothing
-unfolding tekStepOf tekMoved tekSends nextIn tekTransitions
-in-f-sends t x older newer e = simp e
-
-in-c : (a : Authorization) (x : AuthMoment) → a .state ≡ C → authStepOf a 7 x .machine .state ≡ D
-unfolding authStepOf authMoved nextIn authorizationTransitions
-in-c a x e = simp e
-
-key-after : (t : Tek) (x : TekMoment) (older newer : Params) → t .state ≡ D → x .counter ≡ 255 → tekStepOf t 7 x older newer .sends .identifier ≡ 0
-unfolding tekStepOf tekMoved tekSends identifierAfter nextIn tekTransitions
-key-after t x older newer e full = simp (e, full)
-
-auth-after : (a : Authorization) (x : AuthMoment) → a .state ≡ C → x .counter ≡ 255 → authStepOf a 6 x .requests .identifier ≡ 0
-unfolding authStepOf authMoved requestsOf authIdentifier nextIn authorizationTransitions
-auth-after a x e full = simp (e, full)
+reader-number : (s : List ℕ) (r : Refusal) → readOf AtModem s ≡ record { answer = Refused r; fields = noFields; key = noPlace; digest = noPlace }
+    → answerNumber (readerOf AtModem s .answer) ≡ numberOf r
+reader-number s r e =
+    ap answerNumber (reader-answer AtModem s ∙ reader-refused AtModem s r (sym (read-answer AtModem s) ∙ ap (λ (x : Reading). x .answer) e))
 
 pub edges : Edges
 unfolding rolledOf freshOf nextIn authorizationTransitions
 edges =
     record {
+      minting = λ x m enough. minting m enough x;
+      received = received-rows;
+      numbered = numbered;
+      reader-i6 = reader-reads AtModem replyI6 i6-reader ∙ read-I6;
+      reader-length-103 = reader-number (set replyI6 3 103) BadAttribute read-103;
+      reader-107-octets = reader-number (take 107 replyI6) CutMessage read-107;
       clock-899 = λ s k m. refl;
       clock-899-mints = λ s k m. refl;
       clock-900 = λ s k m. refl;

@@ -1,1 +1,5 @@
+pub mod Minting
+pub mod Steps
+pub mod Received
+pub mod Numbered
 pub mod Edges

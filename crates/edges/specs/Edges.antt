@@ -1,14 +1,14 @@
 -- The table of the edges that bear a P (document 01, "Edges"). For the rows on minting L = 1,800, so H = 900, and a SAID is listed at
 -- second 0; the SAID, its suite, the octets k lent with the listing and m lent with the clock call are any.
 use mathlib.Core.Path.{_≡_}
-use Prim.Native.Nat.{ℕ}
+use Prim.Native.Nat.{ℕ, _≤_}
 use mathlib.Core.List.{List, [], _∷_}
-use lib.ListN.{set, take}
+use lib.ListN.{length, set, take}
 use Rattle.questions.specs.declared.refusal.Answer.the-variants.{Done}
 use Rattle.questions.specs.Refusal.{answerNumber}
 use Rattle.wire.specs.declared.fields.Params.{Params}
-use Rattle.wire.specs.declared.fields.Receiver.the-variants.{Modem}
-use Rattle.wire.specs.Reading.{noPlace, readOf}
+use Rattle.wire.specs.declared.fields.Receiver.the-variants.{Modem as AtModem}
+use Rattle.wire.specs.Reading.{noPlace, readOf, readerOf}
 use Rattle.wire.specs.Vectors.{replyI6, fieldsI6}
 use Rattle.tek_machine.specs.declared.tek.Tek.{Tek}
 use Rattle.tek_machine.specs.declared.tek.TekMoment.{TekMoment}
@@ -19,37 +19,28 @@ use Rattle.authorization_machine.specs.Authorization.{authStepOf}
 use Rattle.tek_parts.specs.TekParts.{noPair, nothing}
 use Rattle.tek_machine.specs.Tek.{tekStays, tekStepOf}
 use Rattle.machines.specs.Transitions.{C, D, F, authorizationNext}
-use Rattle.association.specs.declared.record.Assoc.{Assoc}
 use Rattle.association.specs.Roll.{rolledOf}
-use Rattle.association.specs.Listing.{freshOf}
-use Rattle.association.specs.Made.{Made, SaidSuite, Line, madeAt, listedLine, mints, lineTo, keyOf}
-
--- The record of a listing at 0, and the keys that it made
-abbrev pub listed : SaidSuite → List ℕ → Assoc
-listed s k = freshOf 900 0 k 0 (s .said) (s .suite)
-
-abbrev pub line : SaidSuite → List ℕ → Line
-line s k = listedLine 900 0 k 0 s
-
--- A generation minted at a second from 32 octets of m at a place
-abbrev pub generation : SaidSuite → ℕ → ℕ → ℕ → List ℕ → ℕ → Made
-generation s g second deadline m at = madeAt (s .said) (s .suite) g second deadline m at
-
--- A record that holds two generations
-abbrev pub holding : SaidSuite → Made → Made → Assoc
-holding s older newer = record { said = s .said; suite = s .suite; older = keyOf older; newer = keyOf newer }
-
--- The line after clock calls at these seconds
-abbrev pub clocked : List ℕ → List ℕ → Line → Line
-clocked m [] l = l
-clocked m (t ∷ ts) l = clocked m ts (lineTo 900 t m 0 l)
-
--- Fifteen clock calls, every H
-abbrev pub seconds : List ℕ
-seconds =
-    900 ∷ 1800 ∷ 2700 ∷ 3600 ∷ 4500 ∷ 5400 ∷ 6300 ∷ 7200 ∷ 8100 ∷ 9000 ∷ 9900 ∷ 10800 ∷ 11700 ∷ 12600 ∷ 13500 ∷ []
+use Rattle.association.specs.Made.{SaidSuite, mints, keyOf}
+use Rattle.edges.specs.Generations.{listed, line, generation, holding, clocked, seconds}
+use Rattle.edges.specs.Minting.{Start, Minting}
+use Rattle.edges.specs.Received.{Received}
+use Rattle.edges.specs.Numbered.{Numbered}
+use Rattle.modem_steps.specs.declared.state.Modem.{Modem}
+use Rattle.modem_limits.specs.Limits.{modemFits}
+use mathlib.Core.Bool.{true}
 
 pub record Edges : Type 0 where
+  -- ---- minting, over the calls
+  pub minting : (x : Start) (m : List ℕ) → length m ≡ 64 → Minting x m
+  -- ---- what the modem receives, over the calls
+  pub received : (m : Modem) (lent : ℕ) → modemFits m ≡ true → length (m .teks) ≡ 4 → 216 ≤ lent → Received m lent
+  -- ---- the Identifier after 255, over the clock call
+  pub numbered : Numbered
+  -- ---- I.6 through the reader by itself, and with Length 103 and with 107 octets
+  pub reader-i6 : readerOf AtModem replyI6 ≡ record { answer = Done; fields = fieldsI6; key = noPlace; digest = record { start = 88; len = 20 } }
+  pub reader-length-103 : answerNumber (readerOf AtModem (set replyI6 3 103) .answer) ≡ 8
+  pub reader-107-octets : answerNumber (readerOf AtModem (take 107 replyI6) .answer) ≡ 6
+  -- ---- minting, by the rule on one record and on the keys made
   -- clock 899: nothing
   pub clock-899 : (s : SaidSuite) (k m : List ℕ) → rolledOf 900 899 m 0 (listed s k) ≡ listed s k
   pub clock-899-mints : (s : SaidSuite) (k m : List ℕ) → mints 900 899 m 0 (line s k) ≡ []
@@ -88,8 +79,8 @@ pub record Edges : Type 0 where
   pub identifier-255-key : (t : Tek) (x : TekMoment) (older newer : Params) → t .state ≡ D → x .counter ≡ 255 → tekStepOf t 7 x older newer .sends .identifier ≡ 0
   pub identifier-255-auth : (a : Authorization) (x : AuthMoment) → a .state ≡ C → x .counter ≡ 255 → authStepOf a 6 x .requests .identifier ≡ 0
   -- the Key Reply of I.6: Identifier 115, authorization key 7, SAID 8,800, numbers 2 and 3, lives 43,200 and 86,400
-  pub reply-i6 : readOf Modem replyI6 ≡ record { answer = Done; fields = fieldsI6; key = noPlace; digest = record { start = 88; len = 20 } }
+  pub reply-i6 : readOf AtModem replyI6 ≡ record { answer = Done; fields = fieldsI6; key = noPlace; digest = record { start = 88; len = 20 } }
   -- with Length 103: 8
-  pub reply-length-103 : answerNumber (readOf Modem (set replyI6 3 103) .answer) ≡ 8
+  pub reply-length-103 : answerNumber (readOf AtModem (set replyI6 3 103) .answer) ≡ 8
   -- with 107 octets: 6
-  pub reply-107-octets : answerNumber (readOf Modem (take 107 replyI6) .answer) ≡ 6
+  pub reply-107-octets : answerNumber (readOf AtModem (take 107 replyI6) .answer) ≡ 6

@@ -1,1 +1,5 @@
+pub mod Generations
+pub mod Minting
+pub mod Received
+pub mod Numbered
 pub mod Edges
