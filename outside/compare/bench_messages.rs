@@ -40,12 +40,12 @@ fn reading(table: &mut Table, name: &str, end: u8, octets: &[u8]) {
     let which = if end == 0 { End::HeadEnd } else { End::Modem };
     let mut fields = [0; library::FIELDS];
     assert_eq!(library::read(end, octets, &mut fields), 0);
-    assert_eq!(message::read(which, octets).map(|r| library::laid_out_reading(&r)), Ok(fields.to_vec()));
+    assert_eq!(message::read_alone(which, octets).map(|r| library::laid_out_reading(&r)), Ok(fields.to_vec()));
     let mut engine = |(): &mut ()| {
         black_box(library::read(end, black_box(octets), black_box(&mut fields)));
     };
     let mut outside = |(): &mut ()| {
-        black_box(message::read(which, black_box(octets))).expect("it was read before");
+        black_box(message::read_alone(which, black_box(octets))).expect("it was read before");
     };
     table.row(name, OF_MESSAGES, BATCH, Side { make: &|| (), call: &mut engine }, Side { make: &|| (), call: &mut outside });
 }

@@ -73,7 +73,11 @@ fn record(r: &mut Random, state: &mut State) -> &'static str {
         0 => k.said = r.pick(&[16_384, 65_535]),
         1 => k.suite = r.pick(&[0, 255, 257, 512, 769, 65_535]),
         2 => (k.older.deadline, k.newer.deadline) = (clock, clock + half),
-        3 => (k.older.deadline, k.newer.deadline) = (clock + half + 1, clock + 2 * half + 1),
+        3 => {
+            // the newer's is H more, past what 64 bits hold
+            k.older.deadline = u64::MAX - r.below(half);
+            k.newer.deadline = k.older.deadline.wrapping_add(half);
+        }
         4 => k.newer.deadline += 1,
         _ => {
             pair(r, k.suite, &mut k.older, &mut k.newer);

@@ -1,6 +1,7 @@
 //! Both ends of the library, their states by value through C's structs, against the outside ones on random lists of calls.
 //! Every answer, state, record and lent octet is compared; short slices and damaged states have to be refused. `ends LISTS CALLS SEED`.
 
+mod ahead;
 mod as_c;
 mod calls;
 mod damage;
@@ -15,8 +16,10 @@ mod tally;
 mod text;
 mod transitions;
 
+use ahead::Ahead;
 use calls::Call;
 use curlewreel_outside::message::{read, End};
+use curlewreel_outside::replay::Ends;
 use ends_library::{Lengths, Run};
 use plant::Plant;
 use random::Random;
@@ -41,6 +44,7 @@ struct List<'a> {
     /// How often the head-end put out a message of each code.
     codes: &'a mut [u64; 13],
     transitions: &'a mut Transitions,
+    ahead: &'a mut Ahead,
 }
 
 impl List<'_> {
@@ -148,8 +152,27 @@ impl List<'_> {
             .map_err(|e| format!("{what} out of its limits: {e}\n{:?}\n{:?}", state.headend, state.modem))
     }
 
+    /// The call of `line` with the deadlines of the records in use moved ahead at both implementations; `plain` is what it answers without.
+    fn moved_ahead(&mut self, line: &str, call: &Call, mut ends: Ends, plain: &str) -> Result<(), String> {
+        let (mut state, mut lengths) = (self.state.clone(), self.lengths(call));
+        ahead::move_records(&mut self.r, &mut state, &mut ends.head);
+        let before = ends.head.clone();
+        let wanted = ends.call(line.as_bytes()).unwrap_or_default();
+        // question 1 comes before 2
+        if wanted == "1" && self.r.one_in(4) {
+            lengths.out = self.r.below(call.room() as u64 + 1) as usize;
+        }
+        Run::new(&state, lengths, self.r.next() as u8)
+            .compared(call, &state, &wanted, &ends)
+            .map_err(|e| format!("records moved ahead, a slice of {}: {e}\n{:?}", lengths.out, before.records))?;
+        number_of(&wanted).into_iter().for_each(|n| self.count(call, n));
+        self.ahead.add(call, plain, &wanted, &before, &ends.head);
+        Ok(())
+    }
+
     /// The next call at both implementations.
     fn next(&mut self) -> Result<(), String> {
+        let before = self.r.one_in(3).then(|| self.plant.ends.clone());
         let (line, wanted) = self.plant.next();
         let shown = |e: String| format!("{line}\n {e}");
         let Some(answer) = number_of(&wanted) else { return Ok(()) };
@@ -163,22 +186,17 @@ impl List<'_> {
         if self.r.one_in(3) {
             self.unmatched(&call, &wanted).map_err(shown)?;
         }
+        if let Some(ends) = before.filter(|ends| call.ends().0 && !ends.head.records.is_empty()) {
+            self.moved_ahead(&line, &call, ends, &wanted).map_err(shown)?;
+        }
         let lengths = self.lengths(&call);
-        let mut run = Run::new(&self.state, lengths, self.r.next() as u8);
-        let (number, given) = run.call(&call).map_err(shown)?;
-        if given != wanted {
-            return Err(shown(format!("library {given}\n outside {wanted}")));
-        }
-        let lends_to_write = matches!(call, Call::List { .. } | Call::Clock { .. }) && number == 0;
-        if !lends_to_write && run.state.places != self.state.places {
-            return Err(shown("a record was changed".to_string()));
-        }
-        run.state.compare(&self.state, &self.plant.ends).map_err(shown)?;
-        self.transitions.add(&self.state.modem, &run.state.modem);
-        self.state = run.state;
-        self.count(&call, number);
-        if matches!((&call, number), (Call::Up { .. }, 0) | (Call::OpenUp(_), 13)) {
-            let code = first_octet(&given).map_or(0, usize::from);
+        let run = Run::new(&self.state, lengths, self.r.next() as u8);
+        let after = run.compared(&call, &self.state, &wanted, &self.plant.ends).map_err(shown)?;
+        self.transitions.add(&self.state.modem, &after.modem);
+        self.state = after;
+        self.count(&call, answer);
+        if matches!((&call, answer), (Call::Up { .. }, 0) | (Call::OpenUp(_), 13)) {
+            let code = first_octet(&wanted).map_or(0, usize::from);
             self.codes[code] += 1;
         }
         Ok(())
@@ -243,12 +261,14 @@ fn main() {
     let mut args = std::env::args().skip(1).map(|a| a.parse::<u64>().expect("a number"));
     let (lists, calls, seed) = (args.next().unwrap_or(500), args.next().unwrap_or(400), args.next().unwrap_or(1));
     let (mut headend, mut modem, mut codes, mut transitions) = (Tally::default(), Tally::default(), [0; 13], Transitions::default());
+    let mut ahead = Ahead::default();
     wrong_set_ups(&mut Random(seed));
     for i in 0..lists {
         let (mut plant, _) = Plant::new(seed + i);
         let mut r = Random(!(seed + i));
         let state = start(&mut plant, &mut r);
-        let mut list = List { plant, state, r, headend: &mut headend, modem: &mut modem, codes: &mut codes, transitions: &mut transitions };
+        let (headend, modem, codes, transitions, ahead) = (&mut headend, &mut modem, &mut codes, &mut transitions, &mut ahead);
+        let mut list = List { plant, state, r, headend, modem, codes, transitions, ahead };
         for at in 0..plant::calls_of(seed + i, calls) {
             if let Err(e) = list.next() {
                 fail(&format!("differs, list {}, call {at}: {e}", seed + i));
@@ -265,4 +285,5 @@ fn main() {
     headend.told("the head-end", &OF_HEADEND);
     modem.told("the modem", &OF_MODEM);
     transitions.told();
+    ahead.told();
 }

@@ -4,6 +4,7 @@ use crate::calls::{Call, Frame};
 use crate::engine::*;
 use crate::plant::hex;
 use crate::state::State;
+use curlewreel_outside::replay::Ends;
 
 /// How long the lent slices of a call are.
 #[derive(Clone, Copy)]
@@ -99,6 +100,20 @@ impl Run {
             Call::SealUp { said } => self.seal_up(*said),
             Call::OpenDown(frame) => self.open_down(frame),
         }
+    }
+
+    /// The call: its answer, and all that it leaves of the state `before` it, have to be the outside ends'. Gives the state after it.
+    pub fn compared(mut self, call: &Call, before: &State, wanted: &str, ends: &Ends) -> Result<State, String> {
+        let (number, given) = self.call(call)?;
+        if given != wanted {
+            return Err(format!("library {given}\n outside {wanted}"));
+        }
+        let lends_to_write = matches!(call, Call::List { .. } | Call::Clock { .. }) && number == 0;
+        if !lends_to_write && self.state.places != before.places {
+            return Err("a record was changed".to_string());
+        }
+        self.state.compare(before, ends)?;
+        Ok(self.state)
     }
 
     fn records(&self) -> *const Record {

@@ -35,7 +35,7 @@ fn read_one(r: &mut Random, octets: &[u8], tally: &mut Tally) -> Option<(message
     } else if room < library::FIELDS {
         Err(2)
     } else {
-        message::read(if end == 0 { End::HeadEnd } else { End::Modem }, octets)
+        message::read_alone(if end == 0 { End::HeadEnd } else { End::Modem }, octets)
     };
     let (wanted, written) = match &expected {
         Ok(reading) => (0, library::laid_out_reading(reading)),
@@ -185,7 +185,7 @@ fn main() {
         write_some(&mut r, &mut writes);
         frame_one(&mut r, &mut frames);
     }
-    reads.told("reading", &[0, 1, 2, 6, 7, 8, 9]);
+    reads.told("reading", &[0, 1, 2, 6, 7, 8, 9, 11]);
     writes.told("writing", &[0, 1, 2]);
     frames.told("frame decision", &[0, 1, 2, 13]);
     for (code, times) in codes.iter().enumerate().skip(4) {

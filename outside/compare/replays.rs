@@ -51,11 +51,25 @@ fn differs(list: u64, input: &str, wanted: &[u8], given: &[u8]) -> ! {
     ))
 }
 
+/// How many clock calls of a list both ends refuse with different numbers: 2 at the head-end, 3 at the modem.
+fn refused_by_both(input: &str, answers: &str) -> u64 {
+    let (mut clock, mut count) = (0, 0);
+    for (call, answer) in input.lines().skip(4).zip(answers.lines()) {
+        let second = call.strip_prefix("clock,").and_then(|rest| rest.split(',').next()?.parse::<u64>().ok());
+        match (second, number_of(answer)) {
+            (Some(t), Some(0)) => clock = t,
+            (Some(t), Some(2)) if t < clock || t > 1_000_000_000_000 => count += 1,
+            _ => {}
+        }
+    }
+    count
+}
+
 fn main() {
     let args: Vec<String> = std::env::args().skip(1).collect();
     let n = |at: usize| args[at].parse::<u64>().expect("a number");
     let (lists, calls, seed, program) = (n(0), n(1), n(2), &args[3]);
-    let (mut tally, mut no_calls, mut wrong_forms, mut wrong_values) = (Tally::default(), 0, 0, 0);
+    let (mut tally, mut no_calls, mut wrong_forms, mut wrong_values, mut by_both) = (Tally::default(), 0, 0, 0, 0);
     for list in seed..seed + lists {
         let (input, wanted) = plant::list(list, plant::calls_of(list, calls));
         let given = printed(program, input.clone());
@@ -65,16 +79,20 @@ fn main() {
         match wanted.as_str() {
             "?\n" => wrong_forms += 1,
             "1\n" => wrong_values += 1,
-            _ => wanted.lines().filter(|l| !l.starts_with("frames")).for_each(|l| match number_of(l) {
-                Some(n) => tally.add(n),
-                None => no_calls += 1,
-            }),
+            _ => {
+                by_both += refused_by_both(&input, &wanted);
+                wanted.lines().filter(|l| !l.starts_with("frames")).for_each(|l| match number_of(l) {
+                    Some(n) => tally.add(n),
+                    None => no_calls += 1,
+                });
+            }
         }
     }
     println!("outside: {program}, {lists} lists of {calls} calls from seed {seed}, no difference");
     println!("outside: lines that are no calls {no_calls}, set-ups wrong in form {wrong_forms}, out of their limits {wrong_values}");
+    println!("outside: clock calls that the head-end refuses with 2 and the modem with 3: {by_both}");
     tally.told("replay", &(0..15).collect::<Vec<_>>());
-    if no_calls == 0 || wrong_forms == 0 || wrong_values == 0 {
-        fail("a line that is no call, a set-up wrong in form or one out of its limits was not reached");
+    if [no_calls, wrong_forms, wrong_values, by_both].contains(&0) {
+        fail("a line that is no call, a set-up wrong in form or out of its limits, or a clock call that both ends refuse was not reached");
     }
 }

@@ -27,7 +27,9 @@ fn error(code: u8, identifier: u8, error: u8) -> Fields {
 
 fn params(key: &Held, width: usize, clock: u64) -> Params {
     let (tek, vector) = key.octets(width);
-    Params { number: key.number, life: (key.deadline - clock) as u32, tek, vector }
+    // a life that is too long stays too long
+    let life = u32::try_from(key.deadline - clock).unwrap_or(u32::MAX);
+    Params { number: key.number, life, tek, vector }
 }
 
 impl HeadEnd {
@@ -95,17 +97,22 @@ impl HeadEnd {
         if !address_fits(address) {
             return Err(1);
         }
+        let asked = read(End::HeadEnd, octets).map(|m| m.fields);
+        // question 1 of the fields to be written: the one refusal here is that of lives above their limit
+        let to_key_request = match &asked {
+            Ok(f) if f.code == 7 => Some(write(&self.key_request(address, digest, f), &[], 342)?),
+            _ => None,
+        };
         if !(1..=256).contains(&auth_key.len()) {
             return Err(2);
         }
-        let asked = read(End::HeadEnd, octets)?.fields;
-        let answer = match asked.code {
-            4 => self.authorization(address, &asked),
-            7 => self.key_request(address, digest, &asked),
-            _ if asked.identifier != 0 => return Err(11),
-            _ => return Ok(vec![]),
-        };
-        write(&answer, auth_key, 342)
+        let asked = asked?;
+        match (asked.code, to_key_request) {
+            (_, Some(answer)) => Ok(answer),
+            (4, _) => write(&self.authorization(address, &asked), auth_key, 342),
+            _ if asked.identifier != 0 => Err(11),
+            _ => Ok(vec![]),
+        }
     }
 
     /// Authorization Request (4).

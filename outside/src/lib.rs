@@ -12,6 +12,8 @@ pub mod settings;
 pub mod slot;
 
 #[cfg(test)]
+mod ahead_tests;
+#[cfg(test)]
 mod story_tests;
 #[cfg(test)]
 mod walk_tests;

@@ -19,8 +19,8 @@ fn record_fits(r: &Record, clock: u64, half: u64) -> bool {
         && w > 0
         && r.older.number <= 15
         && r.newer.number == (r.older.number + 1) % 16
-        && (clock + 1..=clock + half).contains(&r.older.deadline)
-        && r.newer.deadline == r.older.deadline + half
+        && r.older.deadline > clock
+        && Some(r.newer.deadline) == r.older.deadline.checked_add(half)
         && [&r.older.tek, &r.older.vector, &r.newer.tek, &r.newer.vector].into_iter().all(zeros)
 }
 

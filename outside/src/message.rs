@@ -92,7 +92,17 @@ fn received(end: End, code: u8) -> bool {
     }
 }
 
-/// Reads a message: questions 6 to 9, without what a known suite tells.
+/// The reader by itself: questions 6 to 9, then the half of 11 that needs no state.
+pub fn read_alone(end: End, octets: &[u8]) -> Result<Reading, u8> {
+    let reading = read(end, octets)?;
+    let zero_told = matches!(reading.fields.code, 11 | 12);
+    if zero_told && reading.fields.identifier != 0 {
+        return Err(11);
+    }
+    Ok(reading)
+}
+
+/// Reads a message at an end: questions 6 to 9, without what a known suite tells.
 pub fn read(end: End, octets: &[u8]) -> Result<Reading, u8> {
     if octets.len() < 4 {
         return Err(6);

@@ -67,6 +67,28 @@ fn skipped_and_last() {
 }
 
 #[test]
+fn reader_by_itself() {
+    let f = Fields { code: 11, ak_number: 7, said: 8_800, error: 4, ..Fields::default() };
+    let mut invalid = write(&f, &[], 40).unwrap();
+    assert_eq!(read_alone(End::Modem, &invalid).unwrap().fields, f);
+    invalid[1] = 1;
+    assert_eq!(read_alone(End::Modem, &invalid), Err(11));
+    assert_eq!(read(End::Modem, &invalid).unwrap().fields.identifier, 1);
+    // 6 to 9 come before.
+    assert_eq!(read_alone(End::Modem, &invalid[..39]), Err(6));
+    assert_eq!(read_alone(End::HeadEnd, &invalid), Err(7));
+    assert_eq!(read_alone(End::Modem, &[11, 1, 0, 1, 10]), Err(8));
+    assert_eq!(read_alone(End::Modem, &[11, 1, 0, 0]), Err(9));
+    assert!(read_alone(End::HeadEnd, &[12, 0, 0, 0]).is_ok());
+    assert_eq!(read_alone(End::HeadEnd, &[12, 255, 0, 0]), Err(11));
+    assert_eq!(read_alone(End::HeadEnd, &[12, 1, 0, 2, 99, 0]), Err(8));
+    // Other codes carry any.
+    for octets in [write(&reply(), &[], 342).unwrap(), vec![10, 1, 0, 4, 16, 0, 1, 4], vec![6, 0, 0, 4, 16, 0, 1, 4]] {
+        assert_eq!(read_alone(End::Modem, &octets), read(End::Modem, &octets));
+    }
+}
+
+#[test]
 fn writer_refuses() {
     let mut f = reply();
     f.error = 1;
@@ -77,7 +99,10 @@ fn writer_refuses() {
     let mut f = reply();
     f.newer.life = 43_200;
     assert_eq!(write(&f, &[], 342), Err(1));
-    let f = Fields { code: 12, identifier: 1, ..Fields::default() };
-    assert_eq!(write(&f, &[], 342), Err(1));
+    for code in [11, 12] {
+        let f = Fields { code, identifier: 1, ..Fields::default() };
+        assert_eq!(write(&f, &[], 342), Err(1));
+        assert!(write(&Fields { identifier: 0, ..f }, &[], 342).is_ok());
+    }
     assert_eq!(write(&Fields::default(), &[], 342), Err(1));
 }

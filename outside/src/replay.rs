@@ -73,6 +73,7 @@ fn opened(answer: Opened) -> String {
 }
 
 /// Both ends.
+#[derive(Clone)]
 pub struct Ends {
     pub head: HeadEnd,
     pub modem: Modem,
@@ -234,6 +235,10 @@ mod tests {
              13,{invalid}\n10\n10\n?\n?\n2\nframes,1,1,0,1\n"
         );
         assert_eq!(run(&calls), wanted);
+        // both ends refuse, the head-end with 2 and the modem with 3
+        let both =
+            format!("list,5,1,{fresh},8800,256\nclock,10,{fresh}\nclock,9,\nclock,1000000000001,00\nclock,9,{fresh}\nclock,10,{fresh}\n");
+        assert_eq!(run(&both), "0\n0,\n2\n2\n3\n0,\nframes,0,0,0,0\n");
         let long = format!("up,5,1,07,0c000000{}", "00".repeat(8_183));
         assert_eq!(long.len(), 16_384);
         assert_eq!(run(&long), "0,\nframes,0,0,0,0\n");

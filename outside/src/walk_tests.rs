@@ -113,6 +113,8 @@ fn walk() {
         for _ in 0..3_000 {
             seen[usize::from(walk.step(&mut dice))] += 1;
             assert!(modem_fits(&walk.m) && headend_fits(&walk.h));
+            // the calls make no deadline further ahead
+            assert!(walk.h.records.iter().all(|r| r.older.deadline <= walk.h.clock + settings.half()));
         }
     }
     for n in [0, 6, 7, 8, 9, 10, 11, 12, 13, 14] {
