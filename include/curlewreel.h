@@ -94,7 +94,10 @@ enum { CURLEWREEL_HEAD_END = 0, CURLEWREEL_MODEM = 1 };
  *   6  fewer than four octets, a length above 1,490, or fewer octets than the length says
  *   7  a code that this end does not receive
  *   8  an attribute that runs past its holder, or a value out of its range
- *   9  a needed attribute is not there as often as told, the digest is not the last, or what two attributes say does not agree */
+ *   9  a needed attribute is not there as often as told, the digest is not the last, or what two attributes say does not agree
+ *   11 TEK Invalid or Authentication Information with an Identifier other than 0; other Identifiers need an end's state and are not asked
+ * What it takes in the standard order, curlewreel_write writes again from these octets, with zeros for the digest; and it reads what
+ * curlewreel_write wrote as the octets that were given there. */
 uint8_t curlewreel_read(uint8_t end, const uint8_t *message, size_t message_len, uint8_t *fields, size_t fields_len);
 
 /* What a writing answers: the number, and how many octets it wrote. */
@@ -227,7 +230,7 @@ curlewreel_modem_opening curlewreel_modem_open(curlewreel_modem modem, uint8_t d
 
 typedef struct {
     uint16_t said, suite;         /* suite 256 (8 octets of TEK and of vector) or 768 (16) */
-    curlewreel_key older, newer;
+    curlewreel_key older, newer;  /* the older's deadline is after the clock, the newer's half a TEK life more */
 } curlewreel_record;
 
 /* The SAIDs of a modem with their suites, in listing order: the first `count` of four places. */
@@ -281,8 +284,9 @@ curlewreel_headend_call curlewreel_headend_clock(curlewreel_headend headend, cur
 
 /* A message comes from the modem of that address; `digest` is 1 where its digest holds and 0 where it does not, and `auth_key` has the
  * AUTH-Key's octets for an Authorization Reply. The answer is written at the front of `out`; its other octets stay as they were.
- * Refuses, and then writes and changes nothing: 1 the state, a record, the address or another `digest`; 2 fewer records than are in use, `out`
- * of fewer than 342 octets, or an AUTH-Key that has not 1 to 256; then 6 to 9 as curlewreel_read does, and 11 an Authentication
+ * Refuses, and then writes and changes nothing: 1 the state, a record, the address or another `digest`, or a Key Reply whose lives would be
+ * above 604,800 s (a lent record may have deadlines that far ahead; the calls make none); 2 fewer records than are in use, `out` of
+ * fewer than 342 octets, or an AUTH-Key that has not 1 to 256; then 6 to 9 as curlewreel_read does, and 11 an Authentication
  * Information whose Identifier is not 0. */
 curlewreel_headend_call curlewreel_headend_receive(curlewreel_headend headend, const curlewreel_record *records, size_t records_len,
                                                    uint64_t address, const uint8_t *message, size_t message_len, uint8_t digest,

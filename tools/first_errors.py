@@ -14,7 +14,11 @@ LONGEST = 380
 
 
 def shortened(said):
+    """From where the two sides are computed, if they are: what stands before it is the same for any text."""
     said = re.sub(LIBRARIES, "", said)
+    name, sides, rest = said.partition("computed as far as they go")
+    if sides:
+        said = name.split(" ")[0] + " " + sides + rest
     return said if len(said) <= LONGEST else said[:LONGEST].rsplit(" ", 1)[0] + " .."
 
 
