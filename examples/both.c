@@ -1,16 +1,16 @@
 /* Both ends from C: a listing, authorization, a key exchange, a frame each way, a rollover, and a frame each way after it. */
-#include "curlewreel.h"
+#include "settings.h"
 #include <stdio.h>
 #include <string.h>
 
-enum { SAID = 8800, SUITE = 256, ADDRESS = 77, HALF = 900 };
+enum { SAID = 8800, ADDRESS = 77, SHOWN = 4 };
 
-static const curlewreel_settings settings = {2 * HALF, 300, 86400, 300, 10, 10, 10, 10, 60};
-static const uint8_t auth_key[4] = {1, 2, 3, 4};
+static const uint8_t auth_key[] = {1, 2, 3, 4};
+static const uint8_t allowed = 1;
 static curlewreel_headend headend;
-static curlewreel_record records[64];
+static curlewreel_record records[CURLEWREEL_RECORDS];
 static curlewreel_modem modem;
-static uint8_t material[64], up[216], down[342];
+static uint8_t material[CURLEWREEL_OCTETS_MATERIAL], up[CURLEWREEL_OCTETS_SENT], down[CURLEWREEL_OCTETS_ANSWER];
 
 static void print_octets(const char *name, const uint8_t *octets, size_t n) {
     printf("%s", name);
@@ -21,7 +21,7 @@ static void print_octets(const char *name, const uint8_t *octets, size_t n) {
 static void print_messages(const char *name, uint8_t number, const uint8_t *octets, size_t n) {
     printf("%s: %d", name, number);
     for (size_t at = 0; at < n;) {
-        size_t length = 4 + ((size_t)octets[at + 2] << 8 | octets[at + 3]);
+        size_t length = curlewreel_message_octets(octets + at);
         printf(", code %d of %zu octets", octets[at], length);
         at += length;
     }
@@ -40,58 +40,83 @@ static size_t at_modem(const char *name, curlewreel_modem_call call) {
     return call.count;
 }
 
-/* A message goes up, and the answer comes down; gives how many octets the modem sends then. */
-static size_t exchange(const uint8_t *message, size_t n) {
-    size_t count = at_headend("  head-end", curlewreel_headend_receive(headend, records, 64, ADDRESS, message, n, 1, auth_key,
-                                                                       sizeof auth_key, down, sizeof down));
-    return at_modem("  modem", curlewreel_modem_receive(modem, down, count, 1, up, sizeof up));
+/* The first message of those in `octets` that has the code, or null. */
+static const uint8_t *with_code(uint8_t code, const uint8_t *octets, size_t n) {
+    for (size_t at = 0; at < n; at += curlewreel_message_octets(octets + at))
+        if (octets[at] == code) return octets + at;
+    return NULL;
 }
 
+/* The message with that code, of `n` octets that the modem put out, goes up, and the answer comes down; gives how many octets the modem sends
+ * then. */
+static size_t exchange(uint8_t code, size_t n) {
+    const uint8_t *message = with_code(code, up, n);
+    if (message == NULL) return 0;
+    curlewreel_headend_call answered =
+        curlewreel_headend_receive(headend, records, CURLEWREEL_RECORDS, ADDRESS, message, curlewreel_message_octets(message),
+                                   CURLEWREEL_DIGEST_YES, auth_key, sizeof auth_key, down, sizeof down);
+    size_t count = at_headend("  head-end", answered);
+    return at_modem("  modem", curlewreel_modem_receive(modem, down, count, CURLEWREEL_DIGEST_YES, up, sizeof up));
+}
+
+/* What seals or opens a frame. */
+typedef struct {
+    uint8_t tek[CURLEWREEL_OCTETS_TEK], vector[CURLEWREEL_OCTETS_VECTOR];
+} secret;
+
 /* A frame is well where it was opened, and with the TEK and vector that sealed it. */
-static void print_frame(const char *name, uint8_t number, uint8_t key, uint8_t sealed[2][16], uint8_t opened[2][16]) {
+static void print_frame(const char *name, uint8_t number, uint8_t key, const secret *sealed, const secret *opened) {
+    int same = number == CURLEWREEL_DONE && memcmp(sealed, opened, sizeof *sealed) == 0;
     printf("%s: %d, key %d, TEK", name, number, key);
-    print_octets("", sealed[0], 4);
-    print_octets(" and", opened[0], 4);
-    printf(", %s\n", number == 0 && memcmp(sealed, opened, 32) == 0 ? "the same" : "not the same");
+    print_octets("", sealed->tek, SHOWN);
+    print_octets(" and", opened->tek, SHOWN);
+    printf(", %s\n", same ? "the same" : "not the same");
 }
 
 /* One end seals with a key, and the other opens a frame of that key's number. */
 static void frames(void) {
-    uint8_t sealed[2][16] = {{0}}, opened[2][16] = {{0}}, invalid[40];
-    curlewreel_sealed s = curlewreel_headend_seal(headend, records, 64, ADDRESS, SAID, sealed[0], 16, sealed[1], 16);
-    curlewreel_modem_opening o = curlewreel_modem_open(modem, 1, ADDRESS, SAID, s.key, opened[0], 16, opened[1], 16, up, sizeof up);
+    secret sealed = {{0}, {0}}, opened = {{0}, {0}};
+    uint8_t invalid[CURLEWREEL_OCTETS_INVALID];
+    curlewreel_sealed s = curlewreel_headend_seal(headend, records, CURLEWREEL_RECORDS, ADDRESS, SAID, sealed.tek, sizeof sealed.tek,
+                                                  sealed.vector, sizeof sealed.vector);
+    curlewreel_modem_opening o = curlewreel_modem_open(modem, CURLEWREEL_DOWN, ADDRESS, SAID, s.key, opened.tek, sizeof opened.tek,
+                                                       opened.vector, sizeof opened.vector, up, sizeof up);
     modem = o.modem;
-    print_frame("frame down", o.number, s.key, sealed, opened);
-    s = curlewreel_modem_seal(modem, SAID, sealed[0], 16, sealed[1], 16);
+    print_frame("frame down", o.number, s.key, &sealed, &opened);
+    s = curlewreel_modem_seal(modem, SAID, sealed.tek, sizeof sealed.tek, sealed.vector, sizeof sealed.vector);
     curlewreel_headend_opening p =
-        curlewreel_headend_open(headend, records, 64, 0, ADDRESS, SAID, s.key, opened[0], 16, opened[1], 16, invalid, sizeof invalid);
+        curlewreel_headend_open(headend, records, CURLEWREEL_RECORDS, CURLEWREEL_UP, ADDRESS, SAID, s.key, opened.tek, sizeof opened.tek,
+                                opened.vector, sizeof opened.vector, invalid, sizeof invalid);
     headend = p.headend;
-    print_frame("frame up", p.number, s.key, sealed, opened);
+    print_frame("frame up", p.number, s.key, &sealed, &opened);
 }
 
-/* The clock of both ends; material for new keys, an octet of its own for each place. */
+/* The clock of both ends; material for new keys, an octet of its own for each place, where a head-end takes random ones. */
 static size_t clocks(uint64_t second) {
-    for (size_t i = 0; i < sizeof material; i++) material[i] = (uint8_t)(second / HALF * 64 + i);
-    at_headend("head-end's clock", curlewreel_headend_clock(headend, records, 64, second, material, sizeof material));
+    uint64_t half_lives = second / (settings.tek_life / 2);
+    for (size_t i = 0; i < sizeof material; i++) material[i] = (uint8_t)(half_lives * sizeof material + i);
+    at_headend("head-end's clock",
+               curlewreel_headend_clock(headend, records, CURLEWREEL_RECORDS, second, material, sizeof material));
     return at_modem("modem's clock", curlewreel_modem_clock(modem, second, up, sizeof up));
 }
 
 int main(void) {
-    curlewreel_listing listing = {1, {SAID}, {SUITE}};
+    curlewreel_listing listing = {.count = 1, .saids = {SAID}, .suites = {CURLEWREEL_SUITE_DES}};
     for (size_t i = 0; i < sizeof material; i++) material[i] = (uint8_t)(i + 1);
     at_headend("head-end", curlewreel_headend_new(settings));
-    at_headend("listing", curlewreel_headend_list(headend, records, 64, ADDRESS, 1, listing, material, sizeof material));
+    at_headend("listing", curlewreel_headend_list(headend, records, CURLEWREEL_RECORDS, ADDRESS, allowed, listing, material, sizeof material));
     at_modem("modem", curlewreel_modem_new(settings, ADDRESS, SAID));
 
-    at_modem("established", curlewreel_modem_established(modem, up, sizeof up));
-    size_t n = exchange(up + 4, 9); /* behind the Authentication Information, which gets no answer */
-    exchange(up, n);
+    size_t n = at_modem("established", curlewreel_modem_established(modem, up, sizeof up));
+    n = exchange(CURLEWREEL_MESSAGE_AUTHORIZATION_REQUEST, n); /* the Authentication Information before it gets no answer */
+    exchange(CURLEWREEL_MESSAGE_KEY_REQUEST, n);
     frames();
 
-    clocks(HALF);
-    n = clocks(2 * HALF - 300); /* the newer key's end less the grace: the modem asks anew */
-    exchange(up, n);
+    clocks(settings.tek_life / 2);
+    n = clocks(settings.tek_life - settings.tek_grace); /* the newer key's end less the grace: the modem asks anew */
+    exchange(CURLEWREEL_MESSAGE_KEY_REQUEST, n);
     frames();
+    curlewreel_wipe_stack();
     printf("head-end: %d frames taken, %d refused; modem: %d, %d\n", (int)headend.taken, (int)headend.refused, (int)modem.taken,
            (int)modem.refused);
     return 0;

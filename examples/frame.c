@@ -3,32 +3,44 @@
 #include <stdio.h>
 #include <string.h>
 
-static uint8_t keys[64], tek[16], vector[16];
+enum { OLDER = 2, OLDER_DEADLINE = 900, NEWER = 3, NEWER_DEADLINE = 1800, WIDTH = 8 };
+
+/* Where each stands in `keys`. */
+enum {
+    OLDER_TEK = 0,
+    OLDER_VECTOR = OLDER_TEK + CURLEWREEL_OCTETS_TEK,
+    NEWER_TEK = OLDER_VECTOR + CURLEWREEL_OCTETS_VECTOR,
+    NEWER_VECTOR = NEWER_TEK + CURLEWREEL_OCTETS_TEK
+};
+
+static uint8_t keys[CURLEWREEL_OCTETS_KEYS], tek[CURLEWREEL_OCTETS_TEK], vector[CURLEWREEL_OCTETS_VECTOR];
 
 static void ask(uint64_t clock, uint8_t number, size_t tek_len) {
     memset(tek, 0xee, sizeof tek);
     memset(vector, 0xee, sizeof vector);
-    uint8_t answer = curlewreel_frame(clock, 2, 900, 3, 1800, 8, keys, sizeof keys, number, tek, tek_len, vector, sizeof vector);
+    uint8_t answer = curlewreel_frame(clock, OLDER, OLDER_DEADLINE, NEWER, NEWER_DEADLINE, WIDTH, keys, sizeof keys, number, tek, tek_len,
+                                      vector, sizeof vector);
     printf("clock %llu, frame %u: %u", (unsigned long long)clock, number, answer);
     printf("  tek");
     for (size_t i = 0; i < sizeof tek; i++) printf(" %02x", tek[i]);
-    printf("  vector %02x .. %02x\n", vector[0], vector[15]);
+    printf("  vector %02x .. %02x\n", vector[0], vector[sizeof vector - 1]);
 }
 
 int main(void) {
-    for (int i = 0; i < 8; i++) {
-        keys[i] = (uint8_t)(0x10 + i);
-        keys[16 + i] = (uint8_t)(0x20 + i);
-        keys[32 + i] = (uint8_t)(0x30 + i);
-        keys[48 + i] = (uint8_t)(0x40 + i);
+    for (int i = 0; i < WIDTH; i++) {
+        keys[OLDER_TEK + i] = (uint8_t)(0x10 + i);
+        keys[OLDER_VECTOR + i] = (uint8_t)(0x20 + i);
+        keys[NEWER_TEK + i] = (uint8_t)(0x30 + i);
+        keys[NEWER_VECTOR + i] = (uint8_t)(0x40 + i);
     }
-    ask(899, 2, 16);          /* the older opens it */
-    ask(900, 2, 16);          /* its deadline has come: 13 */
-    ask(900, 3, 16);          /* the newer */
-    ask(900, 4, 16);          /* no key has this number: 13 */
-    ask(900, 16, 16);         /* no such number: 1 */
-    ask(900, 3, 15);          /* a short slice: 2 */
-    keys[8] = 1;
-    ask(900, 3, 16);          /* an octet past the width: 1 */
+    ask(899, OLDER, sizeof tek);                          /* the older opens it */
+    ask(900, OLDER, sizeof tek);                          /* its deadline has come: 13 */
+    ask(900, NEWER, sizeof tek);                          /* the newer */
+    ask(900, NEWER + 1, sizeof tek);                      /* no key has this number: 13 */
+    ask(900, CURLEWREEL_KEY_NUMBER_MOST + 1, sizeof tek); /* no such number: 1 */
+    ask(900, NEWER, sizeof tek - 1);                      /* a short slice: 2 */
+    keys[OLDER_TEK + WIDTH] = 1;
+    ask(900, NEWER, sizeof tek);                          /* an octet past the width: 1 */
+    curlewreel_wipe_stack();
     return 0;
 }

@@ -3,8 +3,13 @@
 #include <stdio.h>
 #include <string.h>
 
+enum { SAID = 8800, WIDTH = 8, KEY_REPLY_OCTETS = 108 };
+
+/* The first attribute stands behind the head: its type, then two octets of its length. */
+enum { FIRST_TYPE = CURLEWREEL_OCTETS_HEAD, FIRST_LENGTH_HIGH, FIRST_LENGTH_LOW };
+
 static const uint8_t none[1];
-static uint8_t fields[CURLEWREEL_FIELDS], message[256], back[CURLEWREEL_FIELDS];
+static uint8_t fields[CURLEWREEL_FIELDS], message[CURLEWREEL_OCTETS_ANSWER], back[CURLEWREEL_FIELDS];
 
 static void put_two(uint8_t *at, unsigned n) {
     at[0] = (uint8_t)(n >> 8);
@@ -29,11 +34,11 @@ static void print_octets(const char *name, const uint8_t *octets, size_t n) {
 static void put_params(uint8_t *at, uint8_t number, unsigned long life, uint8_t first) {
     at[CURLEWREEL_PARAMS_NUMBER] = number;
     put_four(at + CURLEWREEL_PARAMS_LIFE, life);
-    at[CURLEWREEL_PARAMS_TEK_WIDTH] = 8;
-    at[CURLEWREEL_PARAMS_VECTOR_WIDTH] = 8;
-    for (uint8_t i = 0; i < 8; i++) {
+    at[CURLEWREEL_PARAMS_TEK_WIDTH] = WIDTH;
+    at[CURLEWREEL_PARAMS_VECTOR_WIDTH] = WIDTH;
+    for (uint8_t i = 0; i < WIDTH; i++) {
         at[CURLEWREEL_PARAMS_TEK + i] = (uint8_t)(first + i);
-        at[CURLEWREEL_PARAMS_VECTOR + i] = (uint8_t)(first + 16 + i);
+        at[CURLEWREEL_PARAMS_VECTOR + i] = (uint8_t)(first + CURLEWREEL_OCTETS_TEK + i);
     }
 }
 
@@ -61,7 +66,7 @@ static void read_it(const char *name, uint8_t end, size_t n) {
     }
     printf("  code %u, identifier %u, authorization key %u, SAID %u\n", back[CURLEWREEL_FIELD_CODE],
            back[CURLEWREEL_FIELD_IDENTIFIER], back[CURLEWREEL_FIELD_AK_NUMBER], two(back + CURLEWREEL_FIELD_SAID));
-    if (back[CURLEWREEL_FIELD_CODE] == 8) {
+    if (back[CURLEWREEL_FIELD_CODE] == CURLEWREEL_MESSAGE_KEY_REPLY) {
         print_params("older", back + CURLEWREEL_FIELD_OLDER);
         print_params("newer", back + CURLEWREEL_FIELD_NEWER);
     }
@@ -70,29 +75,29 @@ static void read_it(const char *name, uint8_t end, size_t n) {
 }
 
 int main(void) {
-    fields[CURLEWREEL_FIELD_CODE] = 7;
+    fields[CURLEWREEL_FIELD_CODE] = CURLEWREEL_MESSAGE_KEY_REQUEST;
     fields[CURLEWREEL_FIELD_IDENTIFIER] = 115;
     fields[CURLEWREEL_FIELD_AK_NUMBER] = 7;
-    put_two(fields + CURLEWREEL_FIELD_SAID, 8800);
+    put_two(fields + CURLEWREEL_FIELD_SAID, SAID);
     size_t n = write_it("Key Request");
     read_it("Key Request", CURLEWREEL_HEAD_END, n);
     read_it("Key Request", CURLEWREEL_MODEM, n);         /* a code that a modem does not receive: 7 */
 
-    fields[CURLEWREEL_FIELD_CODE] = 8;
+    fields[CURLEWREEL_FIELD_CODE] = CURLEWREEL_MESSAGE_KEY_REPLY;
     put_params(fields + CURLEWREEL_FIELD_OLDER, 2, 43200, 0x40);
     put_params(fields + CURLEWREEL_FIELD_NEWER, 3, 86400, 0x80);
     n = write_it("Key Reply");
     read_it("Key Reply", CURLEWREEL_MODEM, n);
     read_it("Cut Key Reply", CURLEWREEL_MODEM, n - 1);   /* 6 */
-    message[6] = 2;
+    message[FIRST_LENGTH_LOW] = 2;
     read_it("Damaged Key Reply", CURLEWREEL_MODEM, n);   /* the key number's attribute has two octets: 8 */
-    read_it("Key Reply", 2, n);                          /* no such end: 1 */
+    read_it("Key Reply", CURLEWREEL_MODEM + 1, n);       /* no such end: 1 */
 
     fields[CURLEWREEL_FIELD_NEWER + CURLEWREEL_PARAMS_NUMBER] = 4;
     curlewreel_written w = curlewreel_write(fields, sizeof fields, none, 0, message, sizeof message);
     printf("Key Reply with number 4 after 2: %u, %zu octets\n", w.number, w.count);
     fields[CURLEWREEL_FIELD_NEWER + CURLEWREEL_PARAMS_NUMBER] = 3;
-    w = curlewreel_write(fields, sizeof fields, none, 0, message, 107);
+    w = curlewreel_write(fields, sizeof fields, none, 0, message, KEY_REPLY_OCTETS - 1);
     printf("Key Reply into 107 octets: %u, %zu octets\n", w.number, w.count);
     return 0;
 }

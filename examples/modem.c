@@ -1,17 +1,29 @@
 /* A modem from C: authorization, a Key Reply, a frame each way, and what is refused. The head-end's messages are made with
  * curlewreel_write. */
-#include "curlewreel.h"
+#include "settings.h"
 #include <stdio.h>
 #include <string.h>
 
-static const curlewreel_settings settings = {1800, 300, 86400, 300, 10, 10, 10, 10, 60};
+enum { ADDRESS = 77, OWN_SAID = 5, SAID = 9, WIDTH = 8 };
+
 static curlewreel_modem modem;
-static uint8_t fields[CURLEWREEL_FIELDS], message[256], out[216], tek[16], vector[16];
+static uint8_t fields[CURLEWREEL_FIELDS], message[CURLEWREEL_OCTETS_ANSWER], out[CURLEWREEL_OCTETS_SENT];
+static uint8_t tek[CURLEWREEL_OCTETS_TEK], vector[CURLEWREEL_OCTETS_VECTOR];
 static const uint8_t auth_key[4] = {1, 2, 3, 4};
 
 static void print_octets(const uint8_t *octets, size_t n) {
     for (size_t i = 0; i < n; i++) printf(" %02x", octets[i]);
     printf("\n");
+}
+
+static void put_two(uint8_t *at, unsigned n) {
+    at[0] = (uint8_t)(n >> 8);
+    at[1] = (uint8_t)n;
+}
+
+static void put_four(uint8_t *at, unsigned long n) {
+    put_two(at, (unsigned)(n >> 16));
+    put_two(at + 2, (unsigned)(n & 0xffff));
 }
 
 static void done(const char *name, curlewreel_modem_call call) {
@@ -26,39 +38,40 @@ static void comes(const char *name, uint8_t digest) {
     done(name, curlewreel_modem_receive(modem, message, w.count, digest, out, sizeof out));
 }
 
-static void put_params(uint8_t *at, uint8_t number, uint8_t life_high, uint8_t octet) {
+static void put_params(uint8_t *at, uint8_t number, unsigned long life, uint8_t octet) {
     at[CURLEWREEL_PARAMS_NUMBER] = number;
-    at[CURLEWREEL_PARAMS_LIFE + 2] = life_high;
-    at[CURLEWREEL_PARAMS_TEK_WIDTH] = at[CURLEWREEL_PARAMS_VECTOR_WIDTH] = 8;
-    memset(at + CURLEWREEL_PARAMS_TEK, octet, 8);
-    memset(at + CURLEWREEL_PARAMS_VECTOR, octet + 1, 8);
+    put_four(at + CURLEWREEL_PARAMS_LIFE, life);
+    at[CURLEWREEL_PARAMS_TEK_WIDTH] = at[CURLEWREEL_PARAMS_VECTOR_WIDTH] = WIDTH;
+    memset(at + CURLEWREEL_PARAMS_TEK, octet, WIDTH);
+    memset(at + CURLEWREEL_PARAMS_VECTOR, octet + 1, WIDTH);
 }
 
 static void authorization_reply(void) {
-    uint8_t *d = fields + CURLEWREEL_FIELD_DESCRIPTORS;
-    fields[CURLEWREEL_FIELD_CODE] = 5;
-    fields[CURLEWREEL_FIELD_IDENTIFIER] = 1;
+    uint8_t *descriptor = fields + CURLEWREEL_FIELD_DESCRIPTORS;
+    fields[CURLEWREEL_FIELD_CODE] = CURLEWREEL_MESSAGE_AUTHORIZATION_REPLY;
+    fields[CURLEWREEL_FIELD_IDENTIFIER] = modem.authorization.identifier;
     fields[CURLEWREEL_FIELD_COUNT] = 1;
-    fields[CURLEWREEL_FIELD_LIFE + 1] = 1;
-    d[CURLEWREEL_DESCRIPTOR_SAID + 1] = 9;
-    d[CURLEWREEL_DESCRIPTOR_SUITE] = 1;
-    comes("Authorization Reply", 1);
+    put_four(fields + CURLEWREEL_FIELD_LIFE, 65536);
+    put_two(descriptor + CURLEWREEL_DESCRIPTOR_SAID, SAID);
+    put_two(descriptor + CURLEWREEL_DESCRIPTOR_SUITE, CURLEWREEL_SUITE_DES);
+    comes("Authorization Reply", CURLEWREEL_DIGEST_YES);
 }
 
 static void key_reply(void) {
     memset(fields, 0, sizeof fields);
-    fields[CURLEWREEL_FIELD_CODE] = 8;
-    fields[CURLEWREEL_FIELD_IDENTIFIER] = 2;
-    fields[CURLEWREEL_FIELD_SAID + 1] = 9;
-    put_params(fields + CURLEWREEL_FIELD_OLDER, 0, 3, 0xa0);
-    put_params(fields + CURLEWREEL_FIELD_NEWER, 1, 6, 0xb0);
+    fields[CURLEWREEL_FIELD_CODE] = CURLEWREEL_MESSAGE_KEY_REPLY;
+    fields[CURLEWREEL_FIELD_IDENTIFIER] = modem.teks[0].identifier;
+    put_two(fields + CURLEWREEL_FIELD_SAID, SAID);
+    put_params(fields + CURLEWREEL_FIELD_OLDER, 0, 768, 0xa0);
+    put_params(fields + CURLEWREEL_FIELD_NEWER, 1, 1536, 0xb0);
     comes("Key Reply, digest 2", 2);
-    comes("Key Reply, digest 0", 0);
-    comes("Key Reply", 1);
+    comes("Key Reply, digest 0", CURLEWREEL_DIGEST_NO);
+    comes("Key Reply", CURLEWREEL_DIGEST_YES);
 }
 
 static void frame_down(uint8_t number) {
-    curlewreel_modem_opening o = curlewreel_modem_open(modem, 1, 77, 9, number, tek, 16, vector, 16, out, sizeof out);
+    curlewreel_modem_opening o = curlewreel_modem_open(modem, CURLEWREEL_DOWN, ADDRESS, SAID, number, tek, sizeof tek, vector, sizeof vector,
+                                                       out, sizeof out);
     modem = o.modem;
     printf("open %d: %d, taken %d, refused %d, TEK", number, o.number, (int)modem.taken, (int)modem.refused);
     print_octets(tek, o.width);
@@ -68,16 +81,17 @@ static void frame_down(uint8_t number) {
 
 int main(void) {
     printf("sizes %zu %zu %zu\n", sizeof(curlewreel_tek), sizeof(curlewreel_modem), sizeof(curlewreel_modem_opening));
-    done("new", curlewreel_modem_new(settings, 77, 5));
+    done("new", curlewreel_modem_new(settings, ADDRESS, OWN_SAID));
     done("established", curlewreel_modem_established(modem, out, sizeof out));
-    done("clock 10", curlewreel_modem_clock(modem, 10, out, sizeof out));
+    done("clock 10", curlewreel_modem_clock(modem, settings.authorize, out, sizeof out));
     authorization_reply();
     key_reply();
-    curlewreel_sealed s = curlewreel_modem_seal(modem, 9, tek, 16, vector, 16);
+    curlewreel_sealed s = curlewreel_modem_seal(modem, SAID, tek, sizeof tek, vector, sizeof vector);
     printf("seal: %d, key %d, vector", s.number, s.key);
     print_octets(vector, s.width);
     frame_down(0);
-    frame_down(7);
+    frame_down(7); /* no key has this number: 13, and the modem asks anew */
     done("reauth", curlewreel_modem_reauth(modem, out, sizeof out));
+    curlewreel_wipe_stack();
     return 0;
 }

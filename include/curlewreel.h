@@ -1,12 +1,130 @@
-/* Curlewreel, the key engine of Baseline Privacy Plus, for C. Link libfirmware.a (made by `rt staticlib firmware`).
- * Every function is proved to do what its comment says, for all arguments. The header itself is not proved: outside/compare/layout.c looks for
- * each field where it stands here, and the programs under examples/ and outside/ call each function; the gate runs them. A slice is passed as
- * a pointer and a length; a pointer is never null unless its length is 0, and the lent slices of one call do not overlap. */
+/* Curlewreel, the key engine of Baseline Privacy Plus, for C and C++. `make install` puts the library where pkg-config finds it; in the
+ * repository, link libfirmware.a (made by `rt staticlib firmware`).
+ * Every function of the library is proved to do what its comment says, for all arguments. The header itself, with the small functions that are
+ * defined in it, is not proved: outside/compare/layout.c looks for each field where it stands here, and the programs under examples/ and outside/
+ * call each function; the gate runs them. A slice is passed as a pointer and a length; a pointer is never null unless its length is 0, and the
+ * lent slices of one call do not overlap.
+ *
+ * What is yours to do
+ * - TEKs leave in clear. Wrap those of a Key Reply before it is sent, and unwrap them before the modem receives it: curlewreel_read gives the
+ *   fields, and curlewreel_write writes them again with other octets for the TEKs. RSA, certificates and the frame cipher are yours too.
+ * - Digests are written as zeros. Put yours there before a message is sent, after the wrapping. Check each one that comes and say with `digest`
+ *   whether it holds: nothing is checked here. curlewreel_read tells where it stands.
+ * - Material has to be random, fresh for each call, and never used twice, not even what a call dropped.
+ * - Call `clock` often, each second at best: no timer fires elsewhere. One clock has to give both ends' seconds; it never goes back.
+ * - When Reject Wait has run out, the modem is in Start and stays there: call `established` again. Silent is left by no call: make a new modem.
+ * - A Key Reject leaves the SAID's machine in Start, without keys, until the next Authorization Reply that lists the SAID; `reauth` asks for one.
+ * - Key numbers come round after 16. The claim on frames (crates/plant/specs/Demand3.antt) holds where a message to the modem arrives at most D and
+ *   a frame at most F seconds after it was sent, and D and F together are at most 7 TEK lives: drop what is older.
+ *
+ * Copies and restarts
+ * A state or records restored from an older copy, or one end that restarts alone, may hold other keys than the other end under the same
+ * numbers, and nothing notices: each end's state is within its limits, and a frame is opened with the wrong key.
+ * - Never restore an older copy. Keep what the last call handed back, state and records together, or nothing.
+ * - After a restart of the head-end: `new`, list every modem anew, with fresh material, and have every modem begin anew (`new`, `established`).
+ * - After a restart of a modem: `new` and `established`.
+ * A fresh end starts at second 0: tell it the common clock's second with `clock` before anything else; a listing mints at the head-end's second.
+ *
+ * Threads, memory, stack
+ * - The library has no static data that changes, no heap and no system calls; it needs `memcpy` alone. Calls on different states and slices may
+ *   run at the same time. One state is one caller's: two calls on copies of it make two states, of which one is lost.
+ * - Structs have the C compiler's padding, which is not kept, and need no alignment beyond their members'. The archive is for x86-64 with the
+ *   System V calling convention; on another machine the sizes may differ.
+ * - The deepest call is curlewreel_modem_receive: 15,744 octets of stack, added up over the archive's machine code, and 664 for the state that it
+ *   gets by value; at the head-end curlewreel_headend_receive, 9,920 and 1,136. No call recurses, and none takes more for longer input.
+ * - Keys stay on the dead stack after a call, as in each copy of a state or a record. curlewreel_wipe_stack overwrites the one, the copies are
+ *   yours to clear. */
 #ifndef CURLEWREEL_H
 #define CURLEWREEL_H
 
 #include <stddef.h>
 #include <stdint.h>
+
+#define CURLEWREEL_VERSION_MAJOR 0
+#define CURLEWREEL_VERSION_MINOR 1
+#define CURLEWREEL_VERSION "0.1"
+
+#ifdef __cplusplus
+extern "C" {
+#endif
+
+/* How many octets a call asks. */
+enum {
+    CURLEWREEL_OCTETS_HEAD = 4,       /* of each message: code, Identifier, and two of Length, which counts the octets after these four */
+    CURLEWREEL_OCTETS_MESSAGE = 1494, /* the longest message, its head too */
+    CURLEWREEL_OCTETS_AUTH_KEY = 256, /* the longest AUTH-Key; the shortest has 1 */
+    CURLEWREEL_OCTETS_ANSWER = 342,   /* `out` of the head-end's receive, at least */
+    CURLEWREEL_OCTETS_INVALID = 40,   /* `invalid` of the head-end's open, at least */
+    CURLEWREEL_OCTETS_SENT = 216,     /* `out` of each of the modem's calls, at least: six messages */
+    CURLEWREEL_OCTETS_TEK = 16,       /* `tek`, at least; as many in a key, zeros past the width */
+    CURLEWREEL_OCTETS_VECTOR = 16,    /* `vector`, the same */
+    CURLEWREEL_OCTETS_KEYS = 64,      /* `keys` of the frame decision, exactly */
+    CURLEWREEL_OCTETS_MATERIAL = 64   /* `material` for each SAID, exactly: TEK and vector of two keys, 16 octets each */
+};
+
+/* How many there are, and how far numbers go. */
+enum {
+    CURLEWREEL_MODEMS = 16,              /* at a head-end, at most */
+    CURLEWREEL_RECORDS = 64,             /* in use, at most */
+    CURLEWREEL_SAIDS = 4,                /* of a modem, at most; at least 1 */
+    CURLEWREEL_SAID_MOST = 16383,        /* 14 bits */
+    CURLEWREEL_KEY_NUMBER_MOST = 15,     /* of both kinds of key */
+    CURLEWREEL_TEK_LIFE_MOST = 604800,   /* seconds */
+    CURLEWREEL_AK_LIFE_MOST = 12096000   /* seconds, in an Authorization Reply: two lives of the longest setting */
+};
+#define CURLEWREEL_CLOCK_MOST UINT64_C(1000000000000)
+#define CURLEWREEL_ADDRESS_MOST UINT64_C(0xffffffffffff)
+
+/* Suites: DES in CBC mode with 8 octets of TEK and of vector, AES in CBC mode with 16. */
+enum { CURLEWREEL_SUITE_DES = 256, CURLEWREEL_SUITE_AES = 768 };
+
+/* Codes of messages. Up go 4, 7 and 12, down the others. */
+enum {
+    CURLEWREEL_MESSAGE_AUTHORIZATION_REQUEST = 4,
+    CURLEWREEL_MESSAGE_AUTHORIZATION_REPLY = 5,
+    CURLEWREEL_MESSAGE_AUTHORIZATION_REJECT = 6,
+    CURLEWREEL_MESSAGE_KEY_REQUEST = 7,
+    CURLEWREEL_MESSAGE_KEY_REPLY = 8,
+    CURLEWREEL_MESSAGE_KEY_REJECT = 9,
+    CURLEWREEL_MESSAGE_AUTHORIZATION_INVALID = 10,
+    CURLEWREEL_MESSAGE_TEK_INVALID = 11,
+    CURLEWREEL_MESSAGE_AUTHENTICATION_INFORMATION = 12
+};
+
+/* Error codes that the head-end writes. The modem tells 6 in an Authorization Reject from all others, and takes any octet. */
+enum {
+    CURLEWREEL_ERROR_UNAUTHORIZED_MODEM = 1, /* the address is not listed */
+    CURLEWREEL_ERROR_UNAUTHORIZED_SAID = 2,  /* the SAID is not this modem's */
+    CURLEWREEL_ERROR_KEY_NUMBER = 4,         /* no such authorization key is active; in a TEK Invalid, no such TEK */
+    CURLEWREEL_ERROR_DIGEST = 5,             /* a Key Request's digest does not hold */
+    CURLEWREEL_ERROR_PERMANENT = 6           /* the modem is barred */
+};
+
+/* States of the modem's authorization machine. */
+enum {
+    CURLEWREEL_AUTH_START = 0,
+    CURLEWREEL_AUTH_AUTH_WAIT = 1,
+    CURLEWREEL_AUTH_AUTHORIZED = 2,
+    CURLEWREEL_AUTH_REAUTH_WAIT = 3,
+    CURLEWREEL_AUTH_REJECT_WAIT = 4,
+    CURLEWREEL_AUTH_SILENT = 5
+};
+
+/* States of a TEK machine. */
+enum {
+    CURLEWREEL_TEK_START = 0,
+    CURLEWREEL_TEK_OP_WAIT = 1,
+    CURLEWREEL_TEK_OP_REAUTH_WAIT = 2,
+    CURLEWREEL_TEK_OPERATIONAL = 3,
+    CURLEWREEL_TEK_REKEY_WAIT = 4,
+    CURLEWREEL_TEK_REKEY_REAUTH_WAIT = 5
+};
+
+/* Directions of a frame: the head-end opens what comes up, the modem what comes down. */
+enum { CURLEWREEL_UP = 0, CURLEWREEL_DOWN = 1 };
+
+/* Whether a message's digest holds. */
+enum { CURLEWREEL_DIGEST_NO = 0, CURLEWREEL_DIGEST_YES = 1 };
 
 /* Document 01's numbers of refusals. 0 is done. */
 enum {
@@ -123,6 +241,7 @@ curlewreel_written curlewreel_write(const uint8_t *fields, size_t fields_len, co
  * at an opening and for the count of frames refused with 10 or 13, and gives 0 for counts, widths and a key's number, but for what 13 puts out.
  * Messages of one call stand end to end, each with its own length. */
 
+/* The comments in the structs are the limits that question 1 asks; where a field has none, any value is taken. Both ends get the same settings. */
 typedef struct {
     uint64_t tek_life, tek_grace;                                 /* 1,800 to 604,800 s and even; 300 to life / 2 - 1 */
     uint64_t ak_life, ak_grace;                                   /* 86,400 to 6,048,000 s; 300 to life / 2 */
@@ -130,41 +249,44 @@ typedef struct {
 } curlewreel_settings;
 
 typedef struct {
-    uint8_t on; /* 0 or 1 */
-    uint64_t at;
+    uint8_t on;  /* 0 or 1 */
+    uint64_t at; /* the second at which it fires, with the next clock call that reaches it; 0 where it is off */
 } curlewreel_timer;
 
 typedef struct {
-    uint8_t number;
-    uint64_t deadline;
-    uint8_t tek[16], vector[16]; /* zeros past the suite's width */
+    uint8_t number;                                                  /* 0 to 15 */
+    uint64_t deadline;                                               /* the key counts while this is after the clock; limits at each holder */
+    uint8_t tek[CURLEWREEL_OCTETS_TEK], vector[CURLEWREEL_OCTETS_VECTOR]; /* zeros past the suite's width */
 } curlewreel_key;
 
 typedef struct {
-    uint8_t state; /* 0 to 5 for A Start, B Auth Wait, C Authorized, D Reauth Wait, E Reject Wait, F Silent */
-    uint8_t identifier, ak_number;
-    curlewreel_timer timer;
+    uint8_t state;          /* 0 to 5 for A Start, B Auth Wait, C Authorized, D Reauth Wait, E Reject Wait, F Silent */
+    uint8_t identifier;     /* of the last request */
+    uint8_t ak_number;      /* 0 to 15, of the last Reply */
+    curlewreel_timer timer; /* on in B, C, D, E, at most 12,096,000 s after the clock; off in A and F */
 } curlewreel_authorization;
 
+/* A TEK machine. One that is not in use is all zero. */
 typedef struct {
-    uint16_t said, suite;
-    uint8_t state; /* 0 to 5 for A Start, B Op Wait, C Op Reauth Wait, D Operational, E Rekey Wait, F Rekey Reauth Wait */
-    uint8_t identifier;
-    curlewreel_timer timer;
-    uint8_t held; /* 1 where a pair is held */
-    curlewreel_key older, newer;
+    uint16_t said, suite;        /* at most 16,383; 256 or 768 */
+    uint8_t state;               /* 0 to 5 for A Start, B Op Wait, C Op Reauth Wait, D Operational, E Rekey Wait, F Rekey Reauth Wait */
+    uint8_t identifier;          /* of the last request */
+    curlewreel_timer timer;      /* on in B, D, E, at most the operational wait, 604,800 s and the rekey wait after the clock; off in A, C, F */
+    uint8_t held;                /* 1 where a pair is held: in D, E, F and in no other state */
+    curlewreel_key older, newer; /* newer number = older + 1 mod 16; older deadline < newer deadline, and that at most 604,800 s after the clock;
+                                  * both all zero where none is held */
 } curlewreel_tek;
 
 typedef struct {
     curlewreel_settings settings;
-    uint64_t address;
-    uint16_t said; /* its own, which Authorization Requests carry */
-    uint64_t clock;
-    uint8_t counter;
+    uint64_t address; /* 48 bits */
+    uint16_t said;    /* its own, which Authorization Requests carry; at most 16,383 */
+    uint64_t clock;   /* at most 10^12 */
+    uint8_t counter;  /* the Identifier of the last new request */
     curlewreel_authorization authorization;
-    size_t used; /* how many of the four machines are in use */
-    curlewreel_tek teks[4];
-    uint64_t taken, refused; /* frames */
+    size_t used;                           /* how many of the four machines are in use, from the front; 0 to 4 */
+    curlewreel_tek teks[CURLEWREEL_SAIDS]; /* those in use have different SAIDs */
+    uint64_t taken, refused;               /* frames */
 } curlewreel_modem;
 
 /* What a call answers: the number, how many octets of messages it wrote, and the modem after it. */
@@ -229,35 +351,36 @@ curlewreel_modem_opening curlewreel_modem_open(curlewreel_modem modem, uint8_t d
  * refused with 10 or 13, and gives 0 for counts, widths and a key's number, but for what 13 puts out. */
 
 typedef struct {
-    uint16_t said, suite;         /* suite 256 (8 octets of TEK and of vector) or 768 (16) */
-    curlewreel_key older, newer;  /* the older's deadline is after the clock, the newer's half a TEK life more */
+    uint16_t said, suite;         /* at most 16,383; suite 256 (8 octets of TEK and of vector) or 768 (16) */
+    curlewreel_key older, newer;  /* the older's deadline is after the clock, the newer's half a TEK life more; newer number = older + 1 mod 16 */
 } curlewreel_record;
 
 /* The SAIDs of a modem with their suites, in listing order: the first `count` of four places. */
 typedef struct {
-    size_t count;
-    uint16_t saids[4], suites[4];
+    size_t count;                                             /* 1 to 4 */
+    uint16_t saids[CURLEWREEL_SAIDS], suites[CURLEWREEL_SAIDS]; /* of the first `count`: at most 16,383, none twice; 256 or 768 */
 } curlewreel_listing;
 
 typedef struct {
-    uint8_t next;           /* the number that the modem's next authorization key gets */
-    uint64_t older, newer;  /* the deadlines of the last two made, 0 for none */
+    uint8_t next;           /* the number that the modem's next authorization key gets, 0 to 15 */
+    uint64_t older, newer;  /* the deadlines of the last two made, 0 for none. The older's is at most ak_life after the clock, the newer's at most
+                             * ak_life after the older's, or after the clock where the older's is past; older < newer, or both are 0 */
 } curlewreel_auth_keys;
 
 typedef struct {
-    uint64_t address;
-    uint8_t allowed; /* 1, or 0 for a barred modem */
-    curlewreel_listing listing;
+    uint64_t address; /* 48 bits, another than that of each other entry in use */
+    uint8_t allowed;  /* 1, or 0 for a barred modem */
+    curlewreel_listing listing; /* no SAID in common with another entry in use */
     curlewreel_auth_keys keys;
 } curlewreel_entry;
 
 typedef struct {
     curlewreel_settings settings;
-    uint64_t clock;
-    size_t modems; /* how many of the entries are in use */
-    curlewreel_entry entries[16];
-    size_t used;             /* how many of the records are in use */
-    uint64_t taken, refused; /* frames */
+    uint64_t clock;                              /* at most 10^12 */
+    size_t modems;                               /* how many of the entries are in use, from the front; 0 to 16 */
+    curlewreel_entry entries[CURLEWREEL_MODEMS]; /* those not in use are not asked */
+    size_t used;                                 /* how many of the records are in use; 0 to 64 */
+    uint64_t taken, refused;                     /* frames */
 } curlewreel_headend;
 
 /* What a call answers: the number, how many octets of an answer it wrote, and the head-end after it. */
@@ -316,5 +439,80 @@ curlewreel_headend_opening curlewreel_headend_open(curlewreel_headend headend, c
                                                    uint8_t direction, uint64_t address, uint16_t said, uint8_t number, uint8_t *tek,
                                                    size_t tek_len, uint8_t *vector, size_t vector_len, uint8_t *invalid,
                                                    size_t invalid_len);
+
+/* Small functions for the caller. They are no part of the library and are not proved. */
+
+/* How many octets a message has by its own head, of which four have to be there; messages of one call stand end to end. */
+static inline size_t curlewreel_message_octets(const uint8_t *message) {
+    return (size_t)CURLEWREEL_OCTETS_HEAD + ((size_t)message[2] << 8 | message[3]);
+}
+
+/* The name of an answer's number. */
+static inline const char *curlewreel_refusal_name(uint8_t number) {
+    switch (number) {
+    case CURLEWREEL_DONE: return "done";
+    case CURLEWREEL_OUT_OF_LIMITS: return "out of limits";
+    case CURLEWREEL_WRONG_LENGTH: return "wrong length";
+    case CURLEWREEL_CLOCK_OUT_OF_ORDER: return "clock out of order";
+    case CURLEWREEL_NO_FREE_PLACE: return "no free place";
+    case CURLEWREEL_NOT_NEW: return "not new";
+    case CURLEWREEL_CUT_MESSAGE: return "cut message";
+    case CURLEWREEL_CODE_NOT_RECEIVED: return "code not received";
+    case CURLEWREEL_BAD_ATTRIBUTE: return "bad attribute";
+    case CURLEWREEL_WRONG_ATTRIBUTES: return "wrong attributes";
+    case CURLEWREEL_UNKNOWN_SAID: return "unknown SAID";
+    case CURLEWREEL_WRONG_IDENTIFIER: return "wrong Identifier";
+    case CURLEWREEL_DIGEST_FAILS: return "digest fails";
+    case CURLEWREEL_NO_KEY_FOR_FRAME: return "no key for frame";
+    case CURLEWREEL_NO_KEY_TO_SEAL: return "no key to seal";
+    default: return "no such number";
+    }
+}
+
+static inline const char *curlewreel_authorization_state_name(uint8_t state) {
+    switch (state) {
+    case CURLEWREEL_AUTH_START: return "Start";
+    case CURLEWREEL_AUTH_AUTH_WAIT: return "Auth Wait";
+    case CURLEWREEL_AUTH_AUTHORIZED: return "Authorized";
+    case CURLEWREEL_AUTH_REAUTH_WAIT: return "Reauth Wait";
+    case CURLEWREEL_AUTH_REJECT_WAIT: return "Reject Wait";
+    case CURLEWREEL_AUTH_SILENT: return "Silent";
+    default: return "no such state";
+    }
+}
+
+static inline const char *curlewreel_tek_state_name(uint8_t state) {
+    switch (state) {
+    case CURLEWREEL_TEK_START: return "Start";
+    case CURLEWREEL_TEK_OP_WAIT: return "Op Wait";
+    case CURLEWREEL_TEK_OP_REAUTH_WAIT: return "Op Reauth Wait";
+    case CURLEWREEL_TEK_OPERATIONAL: return "Operational";
+    case CURLEWREEL_TEK_REKEY_WAIT: return "Rekey Wait";
+    case CURLEWREEL_TEK_REKEY_REAUTH_WAIT: return "Rekey Reauth Wait";
+    default: return "no such state";
+    }
+}
+
+/* The deepest call with its state by value, and some room for the compiler's own. */
+enum { CURLEWREEL_OCTETS_STACK = 17408 };
+
+/* Inlined, it would overwrite a part of its caller's frame instead. */
+#if defined(__GNUC__)
+#define CURLEWREEL_OWN_FRAME static __attribute__((noinline, unused))
+#else
+#define CURLEWREEL_OWN_FRAME static inline
+#endif
+
+/* Overwrites as much stack below the caller's frame as a call of the library may have used. Call it from the function that made the call, or from
+ * the one above it. What stands in the caller's own frame, the state handed back and maybe the one handed in, and what is left in registers, it does
+ * not reach. */
+CURLEWREEL_OWN_FRAME void curlewreel_wipe_stack(void) {
+    volatile uint8_t dead[CURLEWREEL_OCTETS_STACK];
+    for (size_t i = 0; i < sizeof dead; i++) dead[i] = 0;
+}
+
+#ifdef __cplusplus
+}
+#endif
 
 #endif
