@@ -28,8 +28,8 @@
  * Threads, memory, stack
  * - The library has no static data that changes, no heap and no system calls; it needs `memcpy` alone. Calls on different states and slices may
  *   run at the same time. One state is one caller's: two calls on copies of it make two states, of which one is lost.
- * - Structs have the C compiler's padding, which is not kept, and need no alignment beyond their members'. The archive is for x86-64 with the
- *   System V calling convention; on another machine the sizes may differ.
+ * - Structs have the C compiler's padding, which is not kept: compare states field by field. They need no alignment beyond their members'.
+ *   The archive is for x86-64 with the System V calling convention, and there is none for another machine.
  * - The deepest call is curlewreel_modem_receive: 15,744 octets of stack, added up over the archive's machine code, and 664 for the state that it
  *   gets by value; at the head-end curlewreel_headend_receive, 9,920 and 1,136. No call recurses, and none takes more for longer input.
  * - Keys stay on the dead stack after a call, as in each copy of a state or a record. curlewreel_wipe_stack overwrites the one, the copies are
@@ -444,7 +444,8 @@ curlewreel_headend_opening curlewreel_headend_open(curlewreel_headend headend, c
 
 /* How many octets a message has by its own head, of which four have to be there; messages of one call stand end to end. */
 static inline size_t curlewreel_message_octets(const uint8_t *message) {
-    return (size_t)CURLEWREEL_OCTETS_HEAD + ((size_t)message[2] << 8 | message[3]);
+    size_t high = message[2], low = message[3];
+    return CURLEWREEL_OCTETS_HEAD + (high << 8) + low;
 }
 
 /* The name of an answer's number. */
@@ -493,8 +494,8 @@ static inline const char *curlewreel_tek_state_name(uint8_t state) {
     }
 }
 
-/* The deepest call with its state by value, and some room for the compiler's own. */
-enum { CURLEWREEL_OCTETS_STACK = 17408 };
+/* The deepest call with its state by value, and some 2,000 octets for a function between it and the wiping. */
+enum { CURLEWREEL_OCTETS_STACK = 18432 };
 
 /* Inlined, it would overwrite a part of its caller's frame instead. */
 #if defined(__GNUC__)
@@ -503,9 +504,9 @@ enum { CURLEWREEL_OCTETS_STACK = 17408 };
 #define CURLEWREEL_OWN_FRAME static inline
 #endif
 
-/* Overwrites as much stack below the caller's frame as a call of the library may have used. Call it from the function that made the call, or from
- * the one above it. What stands in the caller's own frame, the state handed back and maybe the one handed in, and what is left in registers, it does
- * not reach. */
+/* Overwrites as much stack below the caller's frame as a call of the library may have used. Call it from the function that made the call or, to reach
+ * that one's frame too, from the one above it. It does not reach its caller's own frame, where the state handed back stands and maybe the one
+ * handed in, nor registers. */
 CURLEWREEL_OWN_FRAME void curlewreel_wipe_stack(void) {
     volatile uint8_t dead[CURLEWREEL_OCTETS_STACK];
     for (size_t i = 0; i < sizeof dead; i++) dead[i] = 0;

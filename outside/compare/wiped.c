@@ -1,0 +1,99 @@
+/* What include/curlewreel.h says of the stack: no call goes deeper than CURLEWREEL_OCTETS_STACK, and curlewreel_wipe_stack leaves no key there. All
+ * keys are of one octet, MARK; the stack is filled before a call and looked through after it. */
+#include "curlewreel.h"
+#include <stdio.h>
+#include <string.h>
+
+enum { MARK = 0xc7, FILL = 0x11, DEPTH = 64 * 1024, NEAR = 256, ADDRESS = 77 };
+
+static const curlewreel_settings settings = {.tek_life = 1800, .tek_grace = 300, .ak_life = 86400, .ak_grace = 300, .authorize = 10,
+    .reauthorize = 10, .operational = 10, .rekey = 10, .reject = 60};
+static const uint8_t auth_key[1] = {9};
+static curlewreel_headend h;
+static curlewreel_record records[CURLEWREEL_RECORDS];
+static curlewreel_modem m;
+static uint8_t material[CURLEWREEL_SAIDS * CURLEWREEL_OCTETS_MATERIAL], down[CURLEWREEL_OCTETS_ANSWER], up[CURLEWREEL_OCTETS_SENT];
+static uint8_t tek[CURLEWREEL_OCTETS_TEK], vector[CURLEWREEL_OCTETS_VECTOR], invalid[CURLEWREEL_OCTETS_INVALID];
+static size_t came, deepest, wrong;
+
+/* Each call in a frame of its own, so that what it leaves is below that of `tried`. */
+#define CALL(name, call) __attribute__((noinline)) static void name(void) { call; }
+#define HEAD(name, call) CALL(name, curlewreel_headend_call c = call; h = c.headend; came = c.count; wrong += c.number != 0)
+#define MODEM(name, call) CALL(name, curlewreel_modem_call c = call; m = c.modem; came = c.count; wrong += c.number != 0)
+
+static const curlewreel_listing four = {.count = 4, .saids = {1, 2, 3, 4},
+    .suites = {CURLEWREEL_SUITE_AES, CURLEWREEL_SUITE_DES, CURLEWREEL_SUITE_AES, CURLEWREEL_SUITE_AES}};
+static const uint8_t *message;
+
+HEAD(headend_new, curlewreel_headend_new(settings))
+HEAD(headend_list, curlewreel_headend_list(h, records, CURLEWREEL_RECORDS, ADDRESS, 1, four, material, sizeof material))
+HEAD(headend_clock, curlewreel_headend_clock(h, records, CURLEWREEL_RECORDS, 100000, material, sizeof material))
+HEAD(headend_receive, curlewreel_headend_receive(h, records, CURLEWREEL_RECORDS, ADDRESS, message, curlewreel_message_octets(message),
+    CURLEWREEL_DIGEST_YES, auth_key, sizeof auth_key, down, sizeof down))
+CALL(headend_seal, wrong += curlewreel_headend_seal(h, records, CURLEWREEL_RECORDS, ADDRESS, 1, tek, 16, vector, 16).number != 0)
+CALL(headend_open, curlewreel_headend_opening c = curlewreel_headend_open(h, records, CURLEWREEL_RECORDS, CURLEWREEL_UP, ADDRESS, 1, 1, tek, 16,
+    vector, 16, invalid, sizeof invalid); h = c.headend; wrong += c.number != 0)
+MODEM(modem_new, curlewreel_modem_new(settings, ADDRESS, 1))
+MODEM(modem_established, curlewreel_modem_established(m, up, sizeof up))
+MODEM(modem_reauth, curlewreel_modem_reauth(m, up, sizeof up))
+MODEM(modem_clock, curlewreel_modem_clock(m, 100000, up, sizeof up))
+MODEM(modem_receive, curlewreel_modem_receive(m, down, came, CURLEWREEL_DIGEST_YES, up, sizeof up))
+CALL(modem_seal, wrong += curlewreel_modem_seal(m, 1, tek, 16, vector, 16).number != 0)
+CALL(modem_open, curlewreel_modem_opening c = curlewreel_modem_open(m, CURLEWREEL_DOWN, ADDRESS, 1, 1, tek, 16, vector, 16, up, sizeof up);
+    m = c.modem; wrong += c.number != 0)
+
+/* The octet so far below a place. */
+static volatile uint8_t *below(uintptr_t top, size_t depth) { return (volatile uint8_t *)(top - depth); }
+
+/* How many runs of eight marks there are. */
+static size_t marks(uintptr_t top) {
+    size_t runs = 0, length = 0;
+    for (size_t at = NEAR; at < DEPTH; at++) {
+        length = *below(top, at) == MARK ? length + 1 : 0;
+        runs += length == 8;
+    }
+    return runs;
+}
+
+/* A call, how deep it goes, and how many keys it leaves before and after the wiping. */
+__attribute__((noinline)) static size_t tried(void (*call)(void)) {
+    volatile uint8_t here = 0;
+    uintptr_t top = (uintptr_t)&here;
+    for (size_t at = NEAR; at < DEPTH; at++) *below(top, at) = FILL;
+    call();
+    size_t depth = DEPTH - 1;
+    while (depth > NEAR && *below(top, depth) == FILL) depth--;
+    size_t left = marks(top);
+    curlewreel_wipe_stack();
+    wrong += marks(top);
+    if (depth > deepest) deepest = depth;
+    return left;
+}
+
+int main(void) {
+    size_t left = 0;
+    memset(material, MARK, sizeof material);
+    left += tried(headend_new) + tried(headend_list) + tried(modem_new) + tried(modem_established);
+    message = up + CURLEWREEL_OCTETS_HEAD; /* behind the Authentication Information */
+    left += tried(headend_receive) + tried(modem_receive);
+
+    uint8_t requests[CURLEWREEL_OCTETS_SENT];
+    size_t n = came;
+    memcpy(requests, up, n);
+    for (message = requests; message < requests + n; message += curlewreel_message_octets(message)) {
+        left += tried(headend_receive) + tried(modem_receive);
+    }
+    left += tried(headend_seal) + tried(headend_open) + tried(modem_seal) + tried(modem_open);
+    left += tried(modem_reauth);
+    message = up;
+    left += tried(headend_receive) + tried(modem_receive); /* the machines go on: the deepest call */
+    left += tried(headend_clock) + tried(modem_clock);
+
+    printf("outside: stack, %zu octets at the deepest of %d; %zu copies of keys left by calls, none after the wiping\n", deepest,
+           CURLEWREEL_OCTETS_STACK, left);
+    if (wrong > 0 || left == 0 || deepest > CURLEWREEL_OCTETS_STACK) {
+        printf("outside: stack: wrong, %zu calls refused or keys not wiped\n", wrong);
+        return 1;
+    }
+    return 0;
+}
