@@ -89,11 +89,12 @@ int main(void) {
     left += tried(headend_receive) + tried(modem_receive); /* the machines go on: the deepest call */
     left += tried(headend_clock) + tried(modem_clock);
 
-    printf("outside: stack, %zu octets at the deepest of %d; %zu copies of keys left by calls, none after the wiping\n", deepest,
-           CURLEWREEL_OCTETS_STACK, left);
     if (wrong > 0 || left == 0 || deepest > CURLEWREEL_OCTETS_STACK) {
-        printf("outside: stack: wrong, %zu calls refused or keys not wiped\n", wrong);
+        printf("outside: stack: %zu octets at the deepest of %d, %zu keys left by calls, %zu calls refused or keys not wiped\n", deepest,
+               CURLEWREEL_OCTETS_STACK, left, wrong);
         return 1;
     }
+    printf("outside: stack, %zu octets at the deepest of %d; %zu copies of keys left by calls, none after the wiping\n", deepest,
+           CURLEWREEL_OCTETS_STACK, left);
     return 0;
 }
