@@ -1,5 +1,6 @@
 -- `holders::range::in_range` meets its contract.
 use Rattle.wire.specs.Ranges.{fits}
+use mathlib.Core.Path.{refl}
 use borrow.Author.Tests.{ne-eqb}
 use mathlib.Core.Logic.{⊎-elim, inl, inr}
 use borrow.Author.Needs.{needs}
@@ -52,7 +53,7 @@ returns-5 c = rw (c .match .keys5) (cc)
 
 returns-6 : tie.Need-returns-6
 unfolding fits
-returns-6 c = rw (c .before .match .keys6) (cc)
+returns-6 c = rw (c .before .match .keys6) (simp (c .be16-of .ensures) refl)
 
 returns-7 : tie.Need-returns-7
 unfolding fits
