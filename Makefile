@@ -11,17 +11,18 @@ ARCHIVE = target/lib/lib$(NAME).a
 HEADER = include/curlewreel.h
 VERSION = $(shell sed -n 's/^\#define CURLEWREEL_VERSION "\(.*\)"$$/\1/p' $(HEADER))
 
+SOURCES = crates.txt $(shell find crates -name '*.rt' -o -name '*.antt')
+
+all: $(ARCHIVE)
+
 # Proves the library and all under it, on all cores; then makes the archive and gives it its name.
-all:
-	rt check firmware
+$(ARCHIVE): $(SOURCES)
+	tools/prove firmware
 	rt staticlib firmware
 	mkdir -p $(dir $(ARCHIVE))
 	cp $(MADE) $(ARCHIVE)
 
-$(ARCHIVE):
-	$(MAKE) all
-
-# Copies header and archive below DESTDIR and PREFIX, with a file for pkg-config; the archive is made first where it is not there.
+# Copies header and archive below DESTDIR and PREFIX, with a file for pkg-config.
 install: $(ARCHIVE)
 	install -d "$(DESTDIR)$(INCLUDEDIR)" "$(DESTDIR)$(LIBDIR)" "$(DESTDIR)$(PKGCONFIGDIR)"
 	install -m 644 $(HEADER) "$(DESTDIR)$(INCLUDEDIR)"
