@@ -12,9 +12,10 @@ static const curlewreel_settings settings = {
     .ak_grace = 300,    /* the modem asks for authorization anew 5 minutes before its end */
     .authorize = 10,    /* an Authorization Request without an answer is sent again after so many seconds */
     .reauthorize = 10,  /* the same, of a modem that was authorized before */
-    .operational = 10,  /* a first Key Request without an answer is sent again after so many */
+    .operational = 10,  /* a Key Request without an answer, while no keys are held, is sent again after so many */
     .rekey = 10,        /* the same, while keys are still held */
-    .reject = 60,       /* a modem that was rejected stays away so long; then it has to be established again */
+    .reject = 60,       /* a modem that was rejected (with another error than 6, which silences it for good) stays away so long; then it has to
+                         * be established again */
 };
 
 #endif

@@ -1,27 +1,32 @@
 /* Curlewreel, the key engine of Baseline Privacy Plus, for C and C++. `make install` puts the library where pkg-config finds it; in the
  * repository, link libfirmware.a (made by `rt staticlib firmware`).
- * Every function of the library is proved to do what its comment says, for all arguments. The header itself, with the small functions that are
- * defined in it, is not proved: outside/compare/layout.c looks for each field where it stands here, and the programs under examples/ and outside/
- * call each function; the gate runs them. A slice is passed as a pointer and a length; a pointer is never null unless its length is 0, and the
- * lent slices of one call do not overlap.
+ * Every function of the library is proved to do what its contract says, for all arguments; the comments here retell the contracts and are not
+ * proved, nor is the rest of the header, with the small functions that are defined in it: outside/compare/layout.c looks for each field where it
+ * stands here, and the programs under examples/ and outside/ call each function; the gate runs them. A slice is passed as a pointer and a length;
+ * a pointer is never null unless its length is 0, and the lent slices of one call do not overlap.
  *
  * What is yours to do
  * - TEKs leave in clear. Wrap those of a Key Reply before it is sent, and unwrap them before the modem receives it: curlewreel_read gives the
- *   fields, and curlewreel_write writes them again with other octets for the TEKs. RSA, certificates and the frame cipher are yours too.
+ *   fields (with `end` CURLEWREEL_MODEM, the end that receives the code, at both places), and curlewreel_write writes them again with other
+ *   octets for the TEKs. RSA, certificates and the frame cipher are yours too.
  * - Digests are written as zeros. Put yours there before a message is sent, after the wrapping. Check each one that comes and say with `digest`
- *   whether it holds: nothing is checked here. curlewreel_read tells where it stands.
+ *   whether it holds: nothing is checked here. curlewreel_read tells where it stands. On arrival check the digest of the message as it came, before
+ *   unwrapping.
  * - Material has to be random, fresh for each call, and never used twice, not even what a call dropped.
  * - Call `clock` often, each second at best: no timer fires elsewhere. One clock has to give both ends' seconds; it never goes back.
  * - When Reject Wait has run out, the modem is in Start and stays there: call `established` again. Silent is left by no call: make a new modem.
  * - A Key Reject leaves the SAID's machine in Start, without keys, until the next Authorization Reply that lists the SAID; `reauth` asks for one.
  * - Key numbers come round after 16. The claim on frames (crates/plant/specs/Demand3.antt) holds where a message to the modem arrives at most D and
- *   a frame at most F seconds after it was sent, and D and F together are at most 7 TEK lives: drop what is older.
+ *   a frame at most F seconds after it was sent, and D and F together are at most 7 TEK lives: drop what is older; and where the modem takes nothing
+ *   but copies of what its head-end sent: Authorization Reply, Reject and Invalid have no digest, so a forged one is taken. Both ends begin fresh,
+ *   with the same settings.
  *
  * Copies and restarts
- * A state or records restored from an older copy, or one end that restarts alone, may hold other keys than the other end under the same
+ * A state or records restored from an older copy, or a head-end that restarts alone, may hold other keys than the other end under the same
  * numbers, and nothing notices: each end's state is within its limits, and a frame is opened with the wrong key.
  * - Never restore an older copy. Keep what the last call handed back, state and records together, or nothing.
  * - After a restart of the head-end: `new`, list every modem anew, with fresh material, and have every modem begin anew (`new`, `established`).
+ *   Nothing sent before it may arrive after it: drop frames for F and messages for D seconds.
  * - After a restart of a modem: `new` and `established`.
  * A fresh end starts at second 0: tell it the common clock's second with `clock` before anything else; a listing mints at the head-end's second.
  *
@@ -211,11 +216,12 @@ enum { CURLEWREEL_HEAD_END = 0, CURLEWREEL_MODEM = 1 };
  *   2  `fields` has fewer than CURLEWREEL_FIELDS octets
  *   6  fewer than four octets, a length above 1,490, or fewer octets than the length says
  *   7  a code that this end does not receive
- *   8  an attribute that runs past its holder, or a value out of its range
+ *   8  an attribute that runs past its holder, or a needed one whose length or value is out of its range, inside compounds too
  *   9  a needed attribute is not there as often as told, the digest is not the last, or what two attributes say does not agree
  *   11 TEK Invalid or Authentication Information with an Identifier other than 0; other Identifiers need an end's state and are not asked
- * What it takes in the standard order, curlewreel_write writes again from these octets, with zeros for the digest; and it reads what
- * curlewreel_write wrote as the octets that were given there. */
+ * What it takes in the standard order, curlewreel_write writes again from these octets, with the AUTH-Key's octets (at
+ * CURLEWREEL_FIELD_KEY_START of the message) for an Authorization Reply and zeros for the digest; and of what curlewreel_write wrote it gives
+ * back the first CURLEWREEL_FIELDS_WRITTEN octets as they were given. */
 uint8_t curlewreel_read(uint8_t end, const uint8_t *message, size_t message_len, uint8_t *fields, size_t fields_len);
 
 /* What a writing answers: the number, and how many octets it wrote. */
@@ -229,8 +235,10 @@ typedef struct {
  *   auth_key: the AUTH-Key's octets, 1 to 256 of them, which an Authorization Reply carries; not looked at for another code.
  * Gives number 0 and the count of octets at the front of `out`; its other octets stay as they were.
  * Refuses with count 0, and then writes nothing:
- *   1  a field is out of its range, or is not zero where the code does not carry it (octets that a short `fields` lacks count as
- *      zero)
+ *   1  the code is not 4 to 12; the Identifier is not 0 in 11 or 12; a field is out of its range, or not zero where the code does not
+ *      carry it (octets past a width and descriptors behind the count too); there are not 1 to 4 descriptors with different SAIDs; the
+ *      newer's number is not the older's and 1 mod 16, or the older's life not below the newer's (octets that a short `fields` lacks
+ *      count as zero)
  *   2  `fields` has fewer than CURLEWREEL_FIELDS_WRITTEN octets, the AUTH-Key has not 1 to 256 where the code carries one, or `out`
  *      is shorter than the message */
 curlewreel_written curlewreel_write(const uint8_t *fields, size_t fields_len, const uint8_t *auth_key, size_t auth_key_len,
@@ -296,8 +304,8 @@ typedef struct {
     curlewreel_modem modem;
 } curlewreel_modem_call;
 
-/* A fresh modem at clock 0. Refuses with 1 settings, an address of more than 48 bits or a SAID of more than 14 that are out of their
- * limits, and then hands back a modem that is all zero. */
+/* A fresh modem at clock 0. Refuses with 1 settings out of their limits, an address of more than 48 bits or a SAID of more than 14, and
+ * then hands back a modem that is all zero. */
 curlewreel_modem_call curlewreel_modem_new(curlewreel_settings settings, uint64_t address, uint16_t said);
 
 /* The modem is established; it is to reauthorize. Where the machine has a blank, done with nothing sent.
@@ -310,8 +318,10 @@ curlewreel_modem_call curlewreel_modem_reauth(curlewreel_modem modem, uint8_t *o
 curlewreel_modem_call curlewreel_modem_clock(curlewreel_modem modem, uint64_t second, uint8_t *out, size_t out_len);
 
 /* A message comes; `digest` is 1 where its digest holds and 0 where it does not.
- * Refuses as above, with 1 also another `digest`, then with 6 to 9 as curlewreel_read does (9 also widths that are not the SAID's suite's),
- * 10 an unknown SAID, 11 an Identifier that no request waits for, 12 a digest that does not hold. */
+ * Refuses as above, with 1 also another `digest`, then with 6 to 9 as curlewreel_read does (9 also widths that are not the SAID's suite's);
+ * 10 a SAID that is not known (8, 9, 11); 11 an Identifier that is not the waiting Authorization Request's (5, 6), not that of the SAID's
+ * waiting Key Request (8, 9), neither 0 nor a waiting Key Request's (10), or not 0 (11); 12 a digest that does not hold (8, 9, 11; for other
+ * codes the word is not used). The numbers in brackets are the messages' codes. */
 curlewreel_modem_call curlewreel_modem_receive(curlewreel_modem modem, const uint8_t *message, size_t message_len, uint8_t digest,
                                                uint8_t *out, size_t out_len);
 
@@ -355,10 +365,11 @@ typedef struct {
     curlewreel_key older, newer;  /* the older's deadline is after the clock, the newer's half a TEK life more; newer number = older + 1 mod 16 */
 } curlewreel_record;
 
-/* The SAIDs of a modem with their suites, in listing order: the first `count` of four places. */
+/* The SAIDs of a modem with their suites, in listing order: the first `count` of four places. None twice: asked with 1 in an entry, with 5 in a
+ * listing that is handed to `list`. */
 typedef struct {
     size_t count;                                             /* 1 to 4 */
-    uint16_t saids[CURLEWREEL_SAIDS], suites[CURLEWREEL_SAIDS]; /* of the first `count`: at most 16,383, none twice; 256 or 768 */
+    uint16_t saids[CURLEWREEL_SAIDS], suites[CURLEWREEL_SAIDS]; /* of the first `count`: at most 16,383; 256 or 768 */
 } curlewreel_listing;
 
 typedef struct {
@@ -406,7 +417,10 @@ curlewreel_headend_call curlewreel_headend_clock(curlewreel_headend headend, cur
                                                  const uint8_t *material, size_t material_len);
 
 /* A message comes from the modem of that address; `digest` is 1 where its digest holds and 0 where it does not, and `auth_key` has the
- * AUTH-Key's octets for an Authorization Reply. The answer is written at the front of `out`; its other octets stay as they were.
+ * AUTH-Key's octets for an Authorization Reply. It has to be that of the authorization key that the Reply will name. Where the entry's
+ * `keys.older` is after the clock, none is made, and it is the last one made, number `keys.next` - 1 mod 16: lend the same octets again. Else
+ * a new one is made, with number `keys.next`. 1 to 256 octets are asked with every message.
+ * The answer is written at the front of `out`; its other octets stay as they were.
  * Refuses, and then writes and changes nothing: 1 the state, a record, the address or another `digest`, or a Key Reply whose lives would be
  * above 604,800 s (a lent record may have deadlines that far ahead; the calls make none); 2 fewer records than are in use, `out` of
  * fewer than 342 octets, or an AUTH-Key that has not 1 to 256; then 6 to 9 as curlewreel_read does, and 11 an Authentication
