@@ -149,8 +149,8 @@ module _ (w : ℕ) (k : TrafficKey) (tek vector : List ℕ) where
   seal-refused a q same e = subst (λ (y : Answer). SealSays (sealedFor y w k) (no-key a) tek vector tek vector) same (seal-no a e)
 
   -- `v` and `n` are the width and the octets written as the code has them
-  module _ (v n : ℕ) (wide : v ≡ w) (count : n ≡ length (keyOut v k .tek)) (tek′ vector′ : List ℕ)
-      (tek-put : tek′ ≡ overlay tek (keyOut v k .tek)) (vector-put : vector′ ≡ overlay vector (keyOut v k .vector)) where
+  module _ (v n : ℕ) (wide : v ≡ w) (tek′ vector′ : List ℕ) (tek-put : tek′ ≡ overlay tek (keyOut v k .tek))
+      (vector-put : vector′ ≡ overlay vector (keyOut v k .vector)) (count : n ≡ length (keyOut v k .tek)) where
     abbrev by-key : Answer → SealedCall
     by-key a = record { answer = a; number = k .number; width = n }
 

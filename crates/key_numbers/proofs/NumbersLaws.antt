@@ -3,6 +3,6 @@ use mathlib.Core.Path.{_≡_}
 use Prim.Native.Nat.{ℕ, _+_, _%_}
 use native.Mathlib.Omega.{arith}
 
--- A sum mod 16 of parts mod 16
-pub mod-once : (n k : ℕ) → (n % 16 + k % 16) % 16 ≡ (n + k) % 16
-mod-once n k = omega arith
+-- A sum mod 16 of parts mod 16, in whatever order they are added
+pub mod-once : (sum n k : ℕ) → sum ≡ n % 16 + k % 16 → sum % 16 ≡ (n + k) % 16
+mod-once sum n k same = omega arith

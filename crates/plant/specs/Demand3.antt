@@ -24,10 +24,11 @@ use Rattle.plant.specs.KeysMade.{ShowsLast, SecondsTold, acceptedBy, str
 -- ---- the claim about a list, run from the fresh pair
 --
 -- The parts work together. Part 1 rules out a frame that is opened with another key than its own, also one of the same number; by itself it would
--- let the head-end make a key for a resent request, as long as no frame meets the two. Part 2 rules out that anything but a listing or the clock
--- counts as making a key; by itself it says nothing of what the records hold, and would let an engine put keys there unseen. Part 3 rules
--- that out: after every prefix of the list the records in use hold the last two keys made of each SAID, and so never any other, not even for
--- the time of one step. Part 4 rules out that a key made depends on an end's state: the second that a listing's keys are made at is told by the list.
+-- let the head-end make a key for a resent request, as long as no frame meets the two. Part 2 rules out that a step other than a listing or a
+-- clock call leads to other keys: with all others struck from the list, the same keys are made. What counts as a key made is the definition's own,
+-- so by itself it says nothing of what the records hold, and would let an engine put keys there unseen. Part 3 rules that out: after every
+-- prefix of the list the records in use hold the last two keys made of each SAID, and so never any other, not even for the time of one step.
+-- Part 4 rules out that a key made depends on an end's state: the second that a listing's keys are made at is told by the list.
 pub record Demand3 (settings : Settings) (address said : ℕ) (records : List Assoc) (F : ℕ) (ss : List Step) : Type 0 where
   -- 1. each frame that is delivered at most F seconds after its sealing is opened with the very octets that the sealing gave, or is
   -- refused with 13 or 10

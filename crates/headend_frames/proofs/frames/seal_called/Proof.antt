@@ -46,7 +46,7 @@ returns-2 c =
     let x = c .before .before .before .before .before .before .before .before .before .before .before .before .before .before .before .before .args in
     let a = c .before .before .before .before .before .before .before .before .before .before .before .before .before .seal-answer in
     seal-done (widthOf (x .s .held .suite)) (x .s .held .older) (x .tek .now) (x .vector .now) (c .before .before .before .before .before .before .before .width .result) (c .before .before .before .before .put-key .result) (c .before .before .before .before .before .before .before .width .ensures .0)
-    (c .before .before .before .before .put-key .ensures .0) _ _ (c .before .before .before .before .put-key .ensures .1) (c .before .before .before .before .put-key .ensures .2)
+    _ _ (c .before .before .before .before .put-key .ensures .1) (c .before .before .before .before .put-key .ensures .2) (c .before .before .before .before .put-key .ensures .0)
     (a .result) _ (a .ensures) (sym (c .before .before .before .before .before .before .before .before .before .before .before .before .is-done .ensures) ∙ not-false _ (c .before .before .before .before .before .before .before .before .before .before .before .if1 .left))
 
 pub seal-called-spec : {M : Type 1} → statement M
