@@ -1,6 +1,6 @@
 #!/usr/bin/env python3
-"""Puts the first error of each edit that docs/TRACE.md quotes into its block there, from the logs that the gate left in target/must-fail; shortened, and
-without the names of libraries. Run it at the repository's top after `.ci/run` or `rt must-fail`."""
+"""Puts the first error of each edit that docs/TRACE.md quotes into its block there, from the logs that the gate left in target/must-fail; shortened,
+without the names of libraries and with `..` for the places before one. Run it at the repository's top after `.ci/run` or `rt must-fail`."""
 import os
 import re
 import sys
@@ -16,6 +16,7 @@ LONGEST = 380
 def shortened(said):
     """From where the two sides are computed, if they are: what stands before it is the same for any text."""
     said = re.sub(LIBRARIES, "", said)
+    said = re.sub(r"(?: \.before)+", " ..", said)
     name, sides, rest = said.partition("computed as far as they go")
     if sides:
         said = name.split(" ")[0] + " " + sides + rest

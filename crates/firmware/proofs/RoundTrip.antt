@@ -7,7 +7,7 @@ use mathlib.Core.List.{List, [], _++_, append-nil}
 use native.Mathlib.Omega.{arith}
 use lib.Dec.{leb, eqb}
 use lib.ListN.{length, getD, take, drop, length-append}
-use lib.Seq.{drop-at, drop-drop}
+use lib.Seq.{drop-at, drop-drop, length-take-le}
 use borrow.Author.Tests.{leb-true, le-leb}
 use Rattle.questions.specs.declared.refusal.Answer.{Answer}
 use Rattle.questions.specs.declared.refusal.Answer.the-variants.{Done, Refused}
@@ -20,16 +20,17 @@ use Rattle.wire.specs.declared.fields.Reading.{Reading}
 use Rattle.wire.specs.declared.fields.Receiver.{Receiver}
 use Rattle.wire.specs.declared.fields.Receiver.the-variants.{HeadEnd, Modem}
 use Rattle.wire.specs.Attributes.{be16, two}
+use Rattle.wire.specs.Ranges.{among, neededOf, needs}
 use Rattle.wire.specs.Messages.{receiverOf, readerQuestions, readerAnswer}
 use Rattle.wire.specs.Reading.{takenOf, readingFor, readOf, readerOf}
 use Rattle.wire.specs.Standard.{standard, digestZeroed}
 use Rattle.wire.specs.Writing.{noDigest, writeQuestions, writeOf, writtenOf}
 use Rattle.wire.proofs.AttributesLaws.{Octets, be16-two}
-use Rattle.wire.proofs.FieldsFit.{Shaped}
+use Rattle.wire.proofs.FieldsFit.{Shaped, fit}
 use Rattle.wire.proofs.MessageAnswers.{reader-done}
 use Rattle.wire.proofs.ReadFits.{read-shaped}
 use Rattle.wire.proofs.ReadCall.{key-held, read-call}
-use Rattle.wire.proofs.WrittenRead.{keyPlace, digestPlace, call-reader}
+use Rattle.wire.proofs.WrittenRead.{keyPlace, digestPlace, call-asked, call-reader, key-read}
 use Rattle.layout.specs.Layout.{keyFrom, paramsFrom, descriptorsFrom, fieldsFrom, fieldsOctets, placeLaid, readingOctets, partAt}
 use Rattle.layout.proofs.LayoutLaws.{length-fields}
 use Rattle.layout.proofs.LaidAgain.{laid-again}
@@ -56,6 +57,22 @@ end-is c = go (eqb c 4 || eqb c 7 || eqb c 12)
     go true = (refl, refl)
     go false = (refl, refl)
 
+-- ---- the place of the AUTH-Key, as a reading tells it
+
+-- The AUTH-Key of a message, at the place that the octets of its reading tell
+abbrev pub keyIn : List ℕ → List ℕ → List ℕ
+keyIn r s = take (be16 (partAt 111 2 r)) (drop (be16 (partAt 109 2 r)) s)
+
+-- the place's octets, behind those of the fields
+place-start : (f q : List ℕ) (a b : ℕ) → length f ≡ 109 → partAt 109 2 (f ++ ((two a ++ two b) ++ q)) ≡ two a
+unfolding two
+place-start f q a b n = ap (take 2) (drop-at f ((two a ++ two b) ++ q) 109 n)
+
+place-length : (f q : List ℕ) (a b : ℕ) → length f ≡ 109 → partAt 111 2 (f ++ ((two a ++ two b) ++ q)) ≡ two b
+unfolding two
+place-length f q a b n =
+    ap (take 2) (sym (drop-drop 2 109 (f ++ ((two a ++ two b) ++ q))) ∙ ap (drop 2) (drop-at f ((two a ++ two b) ++ q) 109 n))
+
 -- ---- written, then read
 from-shaped : (s : List ℕ) → Shaped (fieldsFrom s)
 unfolding fieldsFrom paramsFrom keyFrom descriptorsFrom octetsOf
@@ -65,6 +82,10 @@ from-shaped s =
       older = record { tek = padded-length _; vector = padded-length _ };
       newer = record { tek = padded-length _; vector = padded-length _ };
     }
+
+reply-carries : (c : ℕ) → c ≡ 5 → needs c 7 ≡ true
+unfolding needs neededOf among
+reply-carries c five = rw five refl
 
 module _ (s key : List ℕ) (room : ℕ) (done : writeCallOf s key room .number ≡ 0) where
   write-asked : (109 ≤ length s) × (writeOf (fieldsFrom s) key room .answer ≡ Done)
@@ -95,21 +116,31 @@ module _ (s key : List ℕ) (room : ℕ) (done : writeCallOf s key room .number 
       ∙ ap (λ (x : Reading). callFor Done (readingOctets x)) (r .1)
       ∙ ap (λ (w : List ℕ). callFor Done (w ++ (placeLaid (keyPlace f key) ++ placeLaid (digestPlace f key noDigest)))) (laid-again s o (write-asked .0))
 
+  -- and of an Authorization Reply the AUTH-Key that was lent, at the place that the reading tells
+  pub write-then-key : (padding : List ℕ) (lent : ℕ) → Octets s → 117 ≤ lent → getD s 0 0 ≡ 5
+      → keyIn (readCallOf (endOf (getD s 0 0)) (writeCallOf s key room .written ++ padding) lent .written) (writeCallOf s key room .written ++ padding) ≡ key
+  unfolding placeLaid fieldsFrom
+  write-then-key padding lent o long five =
+      let f = fieldsFrom s in
+      let h = reply-carries (f .code) five in
+      let a = call-asked f key room (write-asked .1) in
+      let n = fit f key (a .0) (a .1) .key h in
+      let q = placeLaid (digestPlace f key noDigest) in
+      let w = take 109 s ++ ((two 7 ++ two (length key)) ++ q) in
+      let m = writtenOf f key room ++ padding in
+      let wide : length (take 109 s) ≡ 109 = length-take-le 109 s (write-asked .0) in
+      let place : placeLaid (keyPlace f key) ≡ two 7 ++ two (length key) = rw h refl in
+      let is : readCallOf (endOf (getD s 0 0)) (writeCallOf s key room .written ++ padding) lent .written ≡ w =
+      ap (λ (c : Call). c .written) (write-then-read padding lent o long) ∙ ap (λ (x : List ℕ). take 109 s ++ (x ++ q)) place in
+      let start : be16 (partAt 109 2 w) ≡ 7 = ap be16 (place-start (take 109 s) q 7 (length key) wide) ∙ be16-two 7 (omega arith) in
+      let len : be16 (partAt 111 2 w) ≡ length key = ap be16 (place-length (take 109 s) q 7 (length key) wide) ∙ be16-two (length key) (omega (arith, n .1)) in
+      ap (λ (x : List ℕ). keyIn x (writeCallOf s key room .written ++ padding)) is
+      ∙ ap (λ (x : List ℕ). keyIn w (x ++ padding)) written-is
+      ∙ ap (λ (k : ℕ). take k (drop (be16 (partAt 109 2 w)) m)) len
+      ∙ ap (λ (k : ℕ). take (length key) (drop k m)) start
+      ∙ rw (a .2) (key-read f key noDigest padding (from-shaped s) (a .0) (a .1) refl h)
+
 -- ---- read, then written
-
--- The AUTH-Key of a message, at the place that the octets of its reading tell
-abbrev pub keyIn : List ℕ → List ℕ → List ℕ
-keyIn r s = take (be16 (partAt 111 2 r)) (drop (be16 (partAt 109 2 r)) s)
-
--- the place's octets, behind those of the fields
-place-start : (f q : List ℕ) (a b : ℕ) → length f ≡ 109 → partAt 109 2 (f ++ ((two a ++ two b) ++ q)) ≡ two a
-unfolding two
-place-start f q a b n = ap (take 2) (drop-at f ((two a ++ two b) ++ q) 109 n)
-
-place-length : (f q : List ℕ) (a b : ℕ) → length f ≡ 109 → partAt 111 2 (f ++ ((two a ++ two b) ++ q)) ≡ two b
-unfolding two
-place-length f q a b n =
-    ap (take 2) (sym (drop-drop 2 109 (f ++ ((two a ++ two b) ++ q))) ∙ ap (drop 2) (drop-at f ((two a ++ two b) ++ q) 109 n))
 
 module _ (end : ℕ) (s : List ℕ) (lent : ℕ) (done : readCallOf end s lent .number ≡ 0) where
   read-met : (leb end 1 ≡ true) × (leb 117 lent ≡ true) × (readerAnswer (receiverAt end) s ≡ Done)
