@@ -4,10 +4,9 @@ LIBDIR = $(PREFIX)/lib
 INCLUDEDIR = $(PREFIX)/include
 PKGCONFIGDIR = $(LIBDIR)/pkgconfig
 
-# The archive's name is said here alone; what `rt` makes bears its crate's.
+# The crate that is exported, whose name the archive bears.
 NAME = curlewreel
-MADE = target/staticlib/libfirmware.a
-ARCHIVE = target/lib/lib$(NAME).a
+ARCHIVE = target/staticlib/lib$(NAME).a
 HEADER = include/curlewreel.h
 VERSION = $(shell sed -n 's/^\#define CURLEWREEL_VERSION "\(.*\)"$$/\1/p' $(HEADER))
 
@@ -15,12 +14,10 @@ SOURCES = crates.txt $(shell find crates -name '*.rt' -o -name '*.antt')
 
 all: $(ARCHIVE)
 
-# Proves the library and all under it, on all cores; then makes the archive and gives it its name.
+# Proves the library and all under it, on all cores; then makes the archive.
 $(ARCHIVE): $(SOURCES)
-	tools/prove firmware
-	rt staticlib firmware
-	mkdir -p $(dir $(ARCHIVE))
-	cp $(MADE) $(ARCHIVE)
+	tools/prove $(NAME)
+	rt staticlib $(NAME)
 
 # Copies header and archive below DESTDIR and PREFIX, with a file for pkg-config.
 install: $(ARCHIVE)

@@ -37,7 +37,7 @@ int main(void) {
     ask(900, OLDER, sizeof tek);                          /* its deadline has come: 13 */
     ask(900, NEWER, sizeof tek);                          /* the newer */
     ask(900, NEWER + 1, sizeof tek);                      /* no key has this number: 13 */
-    ask(900, CURLEWREEL_KEY_NUMBER_MOST + 1, sizeof tek); /* no such number: 1 */
+    ask(900, CURLEWREEL_KEY_NUMBER_MAX + 1, sizeof tek); /* no such number: 1 */
     ask(900, NEWER, sizeof tek - 1);                      /* a short slice: 2 */
     keys[OLDER_TEK + WIDTH] = 1;
     ask(900, NEWER, sizeof tek);                          /* an octet past the width: 1 */

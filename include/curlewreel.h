@@ -1,5 +1,5 @@
 /* Curlewreel, the key engine of Baseline Privacy Plus, for C and C++. `make install` puts the library where pkg-config finds it; in the
- * repository, link libfirmware.a (made by `rt staticlib firmware`).
+ * repository, link libcurlewreel.a (made by `rt staticlib curlewreel`).
  * Every function of the library is proved to do what its contract says, for all arguments; the comments here retell the contracts and are not
  * proved, nor is the rest of the header, with the small functions that are defined in it: outside/compare/layout.c looks for each field where it
  * stands here, and the programs under examples/ and outside/ call each function; the gate runs them. A slice is passed as a pointer and a length;
@@ -16,7 +16,7 @@
  * - Call `clock` often, each second at best: no timer fires elsewhere. One clock has to give both ends' seconds; it never goes back.
  * - When Reject Wait has run out, the modem is in Start and stays there: call `established` again. Silent is left by no call: make a new modem.
  * - A Key Reject leaves the SAID's machine in Start, without keys, until the next Authorization Reply that lists the SAID; `reauth` asks for one.
- * - Key numbers come round after 16. The claim on frames (crates/plant/specs/Demand3.antt) holds where a message to the modem arrives at most D and
+ * - Key numbers come round after 16. The claim on frames (crates/demand_plant/specs/Demand3.antt) holds where a message to the modem arrives at most D and
  *   a frame at most F seconds after it was sent, and D and F together are at most 7 TEK lives: drop what is older; and where the modem takes nothing
  *   but copies of what its head-end sent: Authorization Reply, Reject and Invalid have no digest, so a forged one is taken. Both ends begin fresh,
  *   with the same settings.
@@ -72,13 +72,13 @@ enum {
     CURLEWREEL_MODEMS = 16,              /* at a head-end, at most */
     CURLEWREEL_RECORDS = 64,             /* in use, at most */
     CURLEWREEL_SAIDS = 4,                /* of a modem, at most; at least 1 */
-    CURLEWREEL_SAID_MOST = 16383,        /* 14 bits */
-    CURLEWREEL_KEY_NUMBER_MOST = 15,     /* of both kinds of key */
-    CURLEWREEL_TEK_LIFE_MOST = 604800,   /* seconds */
-    CURLEWREEL_AK_LIFE_MOST = 12096000   /* seconds, in an Authorization Reply: two lives of the longest setting */
+    CURLEWREEL_SAID_MAX = 16383,         /* 14 bits */
+    CURLEWREEL_KEY_NUMBER_MAX = 15,      /* of both kinds of key */
+    CURLEWREEL_TEK_LIFE_MAX = 604800,    /* seconds */
+    CURLEWREEL_AK_REPLY_LIFE_MAX = 12096000 /* seconds, in an Authorization Reply: two lives of the longest setting */
 };
-#define CURLEWREEL_CLOCK_MOST UINT64_C(1000000000000)
-#define CURLEWREEL_ADDRESS_MOST UINT64_C(0xffffffffffff)
+#define CURLEWREEL_CLOCK_MAX UINT64_C(1000000000000)
+#define CURLEWREEL_ADDRESS_MAX UINT64_C(0xffffffffffff)
 
 /* Suites: DES in CBC mode with 8 octets of TEK and of vector, AES in CBC mode with 16. */
 enum { CURLEWREEL_SUITE_DES = 256, CURLEWREEL_SUITE_AES = 768 };

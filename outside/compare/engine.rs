@@ -158,7 +158,7 @@ pub struct HeadendOpening {
     pub headend: Headend,
 }
 
-#[link(name = "firmware", kind = "static")]
+#[link(name = "curlewreel", kind = "static")]
 extern "C" {
     pub fn curlewreel_frame(
         clock: u64,

@@ -1,9 +1,9 @@
-"""The walks of apply_held::held: the head-end's calls on records that are held by value."""
+"""The walks of replay_apply::held: the head-end's calls on records that are held by value."""
 from thin import thin
 
-LENT = "use Rattle.apply_held.proofs.ArrayLent.{%s}"
-CALLS = "use Rattle.headend_rules.specs.Calls.{%s}"
-OCTETS = "use Rattle.keys.specs.Octets.{overlay}"
+LENT = "use Rattle.replay_apply.proofs.ArrayLent.{%s}"
+CALLS = "use Rattle.headend_calls.specs.Calls.{%s}"
+OCTETS = "use Rattle.key_traffic.specs.Octets.{overlay}"
 KEY = [("tek", ".out .tek"), ("vector", ".out .vector")]
 
 
@@ -11,17 +11,17 @@ def written(over, parts): return tuple("overlay (%s .now) (%s %s)" % (s, over, p
 
 
 for fn, args in (("list", "h records address allowed l (material .now)"), ("clock", "h records t (material .now)")):
-    thin("apply_held", "held", fn + "_held", [], [LENT % "array-lent, array-back", CALLS % ("%sOf, %sRecords" % (fn, fn))],
+    thin("replay_apply", "held", fn + "_held", [], [LENT % "array-lent, array-back", CALLS % ("%sOf, %sRecords" % (fn, fn))],
          right=("%sOf %s" % (fn, args), "%sRecords %s" % (fn, args)), then="record {{ called = {got}; records = {back} }}")
 
 RECEIVE = "h records address digest (message .now) (key .now) (length (out .now))"
-thin("apply_held", "held", "receive_held", [], [LENT % "array-shown, array-home, Part", OCTETS, CALLS % "receiveOf, receiveOctets"],
+thin("replay_apply", "held", "receive_held", [], [LENT % "array-shown, array-home, Part", OCTETS, CALLS % "receiveOf, receiveOctets"],
      right=("receiveOf " + RECEIVE, "overlay (out .now) (receiveOctets %s)" % RECEIVE))
 
 SEAL = "sealOf h records address said (length (tek .now)) (length (vector .now))"
-thin("apply_held", "held", "seal_held", [], [LENT % "array-shown, array-home, Part", OCTETS, "use Rattle.keys.specs.Sealing.{sealCalled}", "use Rattle.headend_frames.specs.FrameCalls.{sealOf}"],
+thin("replay_apply", "held", "seal_held", [], [LENT % "array-shown, array-home, Part", OCTETS, "use Rattle.key_traffic.specs.Sealing.{sealCalled}", "use Rattle.headend_frames.specs.FrameCalls.{sealOf}"],
      right=("sealCalled (%s)" % SEAL,) + written("(%s)" % SEAL, KEY))
 
 OPEN = "openOf h records direction address said number (length (tek .now)) (length (vector .now)) (length (invalid .now))"
-thin("apply_held", "held", "open_held", [], [LENT % "array-shown, array-home, Part", OCTETS, "use Rattle.headend_frames.specs.FrameCalled.{openCalled}", "use Rattle.headend_frames.specs.FrameCalls.{openOf}"],
+thin("replay_apply", "held", "open_held", [], [LENT % "array-shown, array-home, Part", OCTETS, "use Rattle.headend_frames.specs.FrameCalled.{openCalled}", "use Rattle.headend_frames.specs.FrameCalls.{openOf}"],
      right=("openCalled (%s)" % OPEN,) + written("(%s)" % OPEN, KEY + [("invalid", ".invalid")]))

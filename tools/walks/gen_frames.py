@@ -1,18 +1,18 @@
-"""The walks of headend::frames::seal and headend::frames::open."""
+"""The walks of headend_calls::frames::seal and headend_calls::frames::open."""
 from thin import thin
 
 
 def frame(fn, over, handed, uses, written):
     """over: what the frame gives; handed: what the call hands back of it; written: each lent slice with its part of it."""
-    thin("headend", "frames", fn,
+    thin("headend_calls", "frames", fn,
          [("sick", "outOfLimits h"), ("bad", "firstOf {sick} (records .now)"), ("sought", "OfSaid said"), ("found", "lookupOf {sought} (records .now)")],
-         ["use Rattle.keys.specs.Octets.{overlay}", "use Rattle.association.specs.declared.search.Probe.the-variants.{OfSaid}",
-          "use Rattle.records.specs.Records.{firstOf, lookupOf}", "use Rattle.headend_limits.specs.Search.{outOfLimits}"] + uses,
+         ["use Rattle.key_traffic.specs.Octets.{overlay}", "use Rattle.key_association.specs.declared.search.Probe.the-variants.{OfSaid}",
+          "use Rattle.key_records.specs.Records.{firstOf, lookupOf}", "use Rattle.headend_limits.specs.Search.{outOfLimits}"] + uses,
          right=("%s (%s)" % (handed, over),) + tuple("overlay (%s .now) (%s %s)" % (s, over, part) for s, part in written))
 
 
 KEY = [("tek", ".out .tek"), ("vector", ".out .vector")]
 frame("seal", "sealedWith h {bad} (length (records .now)) {found} address said (length (tek .now)) (length (vector .now))", "sealCalled",
-      ["use Rattle.headend_frames.specs.Frames.{sealedWith}", "use Rattle.keys.specs.Sealing.{sealCalled}"], KEY)
+      ["use Rattle.headend_frames.specs.Frames.{sealedWith}", "use Rattle.key_traffic.specs.Sealing.{sealCalled}"], KEY)
 frame("open", "openedWith h {bad} (length (records .now)) {found} direction address said number (length (tek .now)) (length (vector .now)) (length (invalid .now))",
       "openCalled", ["use Rattle.headend_frames.specs.Frames.{openedWith}", "use Rattle.headend_frames.specs.FrameCalled.{openCalled}"], KEY + [("invalid", ".invalid")])

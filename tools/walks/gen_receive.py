@@ -1,8 +1,8 @@
-"""The walk of headend::calls::receive."""
+"""The walk of headend_calls::calls::receive."""
 from thin import thin
 over = "h {bad} (length (records .now)) {found} address digest {reading} (key .now) (length (out .now))"
-thin("headend", "calls", "receive",
+thin("headend_calls", "calls", "receive",
      [("sick", "outOfLimits h"), ("bad", "firstOf {sick} (records .now)"), ("reading", "readOf AtHeadEnd (message .now)"), ("sought", "ofRequest {reading}"), ("found", "lookupOf {sought} (records .now)")],
-     ["use Rattle.keys.specs.Octets.{overlay}", "use Rattle.wire.specs.declared.fields.Receiver.the-variants.{HeadEnd as AtHeadEnd}", "use Rattle.wire.specs.Reading.{readOf}",
-      "use Rattle.records.specs.Records.{firstOf, lookupOf}", "use Rattle.headend_limits.specs.Search.{outOfLimits, ofRequest}", "use Rattle.headend_steps.specs.Receive.{receiveCalled, receiveWritten}"],
+     ["use Rattle.key_traffic.specs.Octets.{overlay}", "use Rattle.message_rules.specs.declared.fields.Receiver.the-variants.{HeadEnd as AtHeadEnd}", "use Rattle.message_rules.specs.Reading.{readOf}",
+      "use Rattle.key_records.specs.Records.{firstOf, lookupOf}", "use Rattle.headend_limits.specs.Search.{outOfLimits, ofRequest}", "use Rattle.headend_steps.specs.Receive.{receiveCalled, receiveWritten}"],
      right=("receiveCalled " + over, "overlay (out .now) (receiveWritten " + over + ")"))

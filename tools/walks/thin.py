@@ -10,7 +10,7 @@ import glob, re, subprocess
 from walk import *
 
 PRIMS = {"u8": u8, "u16": u16, "u64": u64, "usize": usize, "bool": boolT}
-STRUCTS, ENUMS, FNS = {}, {}, {}        # by crate::module::NAME
+STRUCTS, ENUMS, FNS, CONSTS = {}, {}, {}, {}        # by crate::module::NAME
 for path in glob.glob("crates/*/src/*.rt"):
     crate, mod = path.split("/")[1], path.split("/")[-1][:-3]
     here = crate + ("" if mod == "lib" else "::" + mod)
@@ -20,6 +20,7 @@ for path in glob.glob("crates/*/src/*.rt"):
         return re.sub(r"[A-Z]\w*", lambda m_: known.get(m_.group(0), here + "::" + m_.group(0)), t_.strip())
     for n, b in re.findall(r"pub struct (\w+) \{(.*?)\}", s, re.S): STRUCTS[here + "::" + n] = [(x, full(y)) for x, y in re.findall(r"pub (\w+): ([^,\n]+)", b)]
     for n in re.findall(r"pub struct (\w+)\(", s): STRUCTS[here + "::" + n] = []
+    for n, v in re.findall(r"const (\w+): \w+ = (\d+);", s): CONSTS[here + "::" + n] = int(v)
     for n in re.findall(r"pub enum (\w+)", s): ENUMS[here + "::" + n] = []
     for n, a, r in re.findall(r"fn (\w+)\((.*?)\)(?: -> (\w+))?\s*\n?\s*(?=requires|ensures|\{)", s, re.S):
         FNS[here + "::" + n] = ([(x, full(y)) for x, y in re.findall(r"(\w+): ([^,]+?)(?:,|$)", a.strip(), re.S)], full(r) if r else "()")
@@ -32,8 +33,8 @@ def ty(t):
     if t in PRIMS: return PRIMS[t]
     m = re.match(r"&(mut )?\[([\w:]+)\]", t)
     if m: return ("mut" if m.group(1) else "shr", ty(m.group(2)))
-    m = re.match(r"\[([\w:]+); (\d+)\]", t)
-    if m: return ArrayOf(ty(m.group(1)), int(m.group(2)))
+    m = re.match(r"\[([\w:]+); ([\w:]+)\]", t)
+    if m: return ArrayOf(ty(m.group(1)), CONSTS[m.group(2)] if m.group(2) in CONSTS else int(m.group(2)))
     if t not in MADE:
         MADE[t] = (struct if t in STRUCTS else enum)(*parts(t), parts(t)[2] + "₁")
         MADE[t].fields = STRUCTS.get(t, [])

@@ -3,14 +3,14 @@ use mathlib.Core.Path.{_≡_}
 use mathlib.Core.Bool.{Bool, true, false}
 use Prim.Native.Nat.{ℕ}
 use lib.Dec.{eqb}
-use Rattle.association.specs.declared.record.Assoc.{Assoc}
-use Rattle.wire.specs.declared.fields.Fields.{Fields}
-use Rattle.wire.specs.Fields.{noFields}
+use Rattle.key_association.specs.declared.record.Assoc.{Assoc}
+use Rattle.message_rules.specs.declared.fields.Fields.{Fields}
+use Rattle.message_rules.specs.Fields.{noFields}
 use Rattle.headend_state.specs.declared.state.HeadEnd.{HeadEnd}
 use Rattle.headend_state.specs.declared.entries.Known.{Known}
 use Rattle.headend_state.specs.Authorization.{isActive}
 use Rattle.headend_state.specs.Entries.{lists}
-use Rattle.answer_fields.specs.AnswerFields.{reject, invalid, keyReject, keyReply, replyAnswer}
+use Rattle.headend_answers.specs.AnswerFields.{reject, invalid, keyReject, keyReply, replyAnswer}
 use Rattle.headend_answers.specs.Answers.{keyAnswer, keysAfter, stateAfter, requestAnswer, requestState, requestReaction, reactionOf}
 
 -- ---- Key Request

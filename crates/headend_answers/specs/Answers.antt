@@ -4,9 +4,9 @@ use mathlib.Core.Bool.{Bool, true, cond, not}
 use mathlib.Core.List.{List, [], _∷_}
 use Prim.Native.Nat.{ℕ}
 use lib.Dec.{eqb}
-use Rattle.association.specs.declared.record.Assoc.{Assoc}
-use Rattle.wire.specs.declared.fields.Fields.{Fields}
-use Rattle.wire.specs.Fields.{noFields}
+use Rattle.key_association.specs.declared.record.Assoc.{Assoc}
+use Rattle.message_rules.specs.declared.fields.Fields.{Fields}
+use Rattle.message_rules.specs.Fields.{noFields}
 use Rattle.headend_state.specs.declared.state.AuthKeys.{AuthKeys}
 use Rattle.headend_state.specs.declared.state.Entry.{Entry}
 use Rattle.headend_state.specs.declared.state.HeadEnd.{HeadEnd}
@@ -14,7 +14,7 @@ use Rattle.headend_state.specs.declared.entries.Known.{Known}
 use Rattle.headend_answers.specs.declared.answers.Reaction.{Reaction}
 use Rattle.headend_state.specs.Authorization.{Countable, isActive, keysFor}
 use Rattle.headend_state.specs.Entries.{lists, withEntry}
-use Rattle.answer_fields.specs.AnswerFields.{reject, invalid, keyReject, replyAnswer, keyReply}
+use Rattle.headend_answers.specs.AnswerFields.{reject, invalid, keyReject, replyAnswer, keyReply}
 
 -- ---- the first that applies
 pub record Case : Type 0 where

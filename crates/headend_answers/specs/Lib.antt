@@ -1,1 +1,2 @@
+pub mod AnswerFields
 pub mod Answers

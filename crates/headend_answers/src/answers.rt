@@ -1,22 +1,34 @@
 // Which answer a request gets.
 ghost use mathlib.Core.Path.{_≡_};
 ghost use Rattle.headend_answers.specs.Answers.{keyAnswer, withKeys, requestReaction, ReactionFits, reactionOf};
-use answer_fields::fields::error_answer;
-use answer_fields::fields::key_reply;
-use answer_fields::fields::reply_answer;
-use association::record::Assoc;
+use crate::fields::error_answer;
+use crate::fields::key_reply;
+use crate::fields::reply_answer;
 use headend_state::authorization::granted;
 use headend_state::authorization::is_active;
 use headend_state::entries::Known;
 use headend_state::entries::is_listing;
 use headend_state::entries::with_entry;
 use headend_state::state::AuthKeys;
+use headend_state::state::BARRED;
 use headend_state::state::Entry;
 use headend_state::state::HeadEnd;
-use key_numbers::numbers::AkNumber;
-use wire::fields::Fields;
+use key_association::record::Assoc;
+use key_traffic::numbers::AkNumber;
+use message_rules::codes::CODE_AUTHORIZATION_INVALID;
+use message_rules::codes::CODE_AUTHORIZATION_REJECT;
+use message_rules::codes::CODE_AUTHORIZATION_REQUEST;
+use message_rules::codes::CODE_KEY_REJECT;
+use message_rules::codes::CODE_KEY_REQUEST;
+use message_rules::codes::CODE_NONE;
+use message_rules::codes::ERROR_DIGEST;
+use message_rules::codes::ERROR_KEY_NUMBER;
+use message_rules::codes::ERROR_PERMANENT;
+use message_rules::codes::ERROR_UNAUTHORIZED_MODEM;
+use message_rules::codes::ERROR_UNAUTHORIZED_SAID;
+use message_rules::fields::Fields;
 
-// What a message does: the head-end after it, and the fields of the answer; code 0 where there is none.
+// What a message does: the head-end after it, and the fields of the answer; code CODE_NONE where there is none.
 pub struct Reaction {
     pub state: HeadEnd,
     pub answer: Fields,
@@ -30,16 +42,40 @@ pub fn key_answer(clock: u64, k: Known, a: Assoc, digest: bool, f: Fields) -> Fi
     let keys = e.keys;
     let l = e.listing;
     if !k.is_listed {
-        return error_answer(10, f.identifier, AkNumber(0), 0, 1);
+        return error_answer(
+            CODE_AUTHORIZATION_INVALID,
+            f.identifier,
+            AkNumber(0),
+            0,
+            ERROR_UNAUTHORIZED_MODEM,
+        );
     }
     if !is_active(clock, keys, f.ak) {
-        return error_answer(10, f.identifier, AkNumber(0), 0, 4);
+        return error_answer(
+            CODE_AUTHORIZATION_INVALID,
+            f.identifier,
+            AkNumber(0),
+            0,
+            ERROR_KEY_NUMBER,
+        );
     }
     if !digest {
-        return error_answer(10, f.identifier, AkNumber(0), 0, 5);
+        return error_answer(
+            CODE_AUTHORIZATION_INVALID,
+            f.identifier,
+            AkNumber(0),
+            0,
+            ERROR_DIGEST,
+        );
     }
     if !is_listing(l, f.said) {
-        return error_answer(9, f.identifier, f.ak, f.said, 2);
+        return error_answer(
+            CODE_KEY_REJECT,
+            f.identifier,
+            f.ak,
+            f.said,
+            ERROR_UNAUTHORIZED_SAID,
+        );
     }
     key_reply(clock, a, f)
 }
@@ -63,14 +99,26 @@ fn request_reaction(h: HeadEnd, k: Known, identifier: u8) -> Reaction
 {
     let e = k.entry;
     if !k.is_listed {
-        let answer = error_answer(6, identifier, AkNumber(0), 0, 1);
+        let answer = error_answer(
+            CODE_AUTHORIZATION_REJECT,
+            identifier,
+            AkNumber(0),
+            0,
+            ERROR_UNAUTHORIZED_MODEM,
+        );
         return Reaction {
             state: h,
             answer: answer,
         };
     }
-    if e.allowed == 0 {
-        let answer = error_answer(6, identifier, AkNumber(0), 0, 6);
+    if e.allowed == BARRED {
+        let answer = error_answer(
+            CODE_AUTHORIZATION_REJECT,
+            identifier,
+            AkNumber(0),
+            0,
+            ERROR_PERMANENT,
+        );
         return Reaction {
             state: h,
             answer: answer,
@@ -96,8 +144,8 @@ pub fn react(h: HeadEnd, k: Known, a: Assoc, digest: bool, f: Fields) -> Reactio
 {
     let code = f.code;
     match code {
-        4 => request_reaction(h, k, f.identifier),
-        7 => {
+        CODE_AUTHORIZATION_REQUEST => request_reaction(h, k, f.identifier),
+        CODE_KEY_REQUEST => {
             let answer = key_answer(h.clock, k, a, digest, f);
             Reaction {
                 state: h,
@@ -105,7 +153,7 @@ pub fn react(h: HeadEnd, k: Known, a: Assoc, digest: bool, f: Fields) -> Reactio
             }
         }
         _ => {
-            let none = error_answer(0, 0, AkNumber(0), 0, 0);
+            let none = error_answer(CODE_NONE, 0, AkNumber(0), 0, 0);
             Reaction {
                 state: h,
                 answer: none,

@@ -7,37 +7,37 @@ use native.Mathlib.Omega.{arith}
 use lib.Dec.{leb, eqb}
 use lib.ListN.{length}
 use borrow.Author.Tests.{leb-true, le-leb, le-ltb, lt-ltb, ne-eqb}
-use Rattle.key_numbers.specs.declared.numbers.TekNumber.{TekNumber}
-use Rattle.keys.specs.declared.traffic.TrafficKey.{TrafficKey}
-use Rattle.keys.specs.declared.frame.Opening.{Opening}
+use Rattle.key_traffic.specs.declared.numbers.TekNumber.{TekNumber}
+use Rattle.key_traffic.specs.declared.traffic.TrafficKey.{TrafficKey}
+use Rattle.key_traffic.specs.declared.frame.Opening.{Opening}
 use Rattle.questions.specs.declared.refusal.Answer.{Answer}
 use Rattle.questions.specs.declared.refusal.Answer.the-variants.{Done, Refused}
 use Rattle.questions.specs.declared.refusal.Refusal.the-variants.{OutOfLimits, WrongLength, UnknownSaid, NoKeyForFrame}
-use Rattle.key_numbers.specs.Numbers.{tekInRange}
-use Rattle.keys.specs.Octets.{allZero, zeroPast, overlay}
-use Rattle.keys.specs.Suites.{widthOf}
+use Rattle.key_traffic.specs.Numbers.{tekInRange}
+use Rattle.key_traffic.specs.Octets.{allZero, zeroPast, overlay}
+use Rattle.key_traffic.specs.Suites.{widthOf}
 use Rattle.questions.specs.Questions.{Question}
 use Rattle.questions.specs.Refusal.{numberOf, answerNumber, isDone}
-use Rattle.keys.specs.Frame.{opens}
-use Rattle.keys.specs.Sealing.{KeyOut, keyOut, Sealed, sealedFor, openedBy, sealCalled}
+use Rattle.key_traffic.specs.Frame.{opens}
+use Rattle.key_traffic.specs.Sealing.{KeyOut, keyOut, Sealed, sealedFor, openedBy, sealCalled}
 use Rattle.questions.proofs.AnswerLaws.{done-met, is-done, number-done}
 use Rattle.questions.proofs.TestLaws.{both}
-use Rattle.association.specs.declared.search.Found.{Found}
-use Rattle.keys.specs.Addresses.{saidFits, addressFits}
-use Rattle.wire.specs.declared.fields.Fields.{Fields}
-use Rattle.wire.specs.Ranges.{neededOf, among, needs}
-use Rattle.wire.specs.Attributes.{two, attrOctets, octets}
-use Rattle.wire.specs.Limits.{keyOctetsZero, paramsZero, descriptorZero, placeFit, descriptorsZero, headFits, fieldsFit, authKeyFits}
-use Rattle.wire.specs.Writing.{itemsOfType, itemsOfTypes, itemsOf, message, messageOf, noDigest}
+use Rattle.key_association.specs.declared.search.Found.{Found}
+use Rattle.key_traffic.specs.Addresses.{saidFits, addressFits}
+use Rattle.message_rules.specs.declared.fields.Fields.{Fields}
+use Rattle.message_rules.specs.Ranges.{requiredOf, among, isRequired}
+use Rattle.message_rules.specs.Attributes.{two, attrOctets, octets}
+use Rattle.message_rules.specs.Limits.{keyOctetsZero, paramsZero, descriptorZero, placeFit, descriptorsZero, headFits, fieldsFit, authKeyFits}
+use Rattle.message_rules.specs.Writing.{itemsOfType, itemsOfTypes, itemsOf, message, messageOf, noDigest}
 use Rattle.headend_state.specs.declared.state.HeadEnd.{HeadEnd}
 use Rattle.headend_state.specs.declared.entries.Known.{Known}
-use Rattle.keys.specs.declared.sealing.SealedCall.{SealedCall}
+use Rattle.key_traffic.specs.declared.sealing.SealedCall.{SealedCall}
 use Rattle.headend_frames.specs.declared.frames.OpenedCall.{OpenedCall}
 use Rattle.headend_state.specs.Entries.{knownOf}
 use Rattle.headend_limits.specs.Limits.{headFits as stateFits}
 use Rattle.headend_limits.specs.Search.{recordsFit}
 use Rattle.headend_steps.specs.Receive.{answerOctets, Writable}
-use Rattle.headend_frame_questions.specs.FrameQuestions.{isOwn, heldSuits, frameFits, sealAnswer, openingIn, openAnswer, countedBy}
+use Rattle.headend_frames.specs.FrameQuestions.{isOwn, heldSuits, frameFits, sealAnswer, openingIn, openAnswer, countedBy}
 use Rattle.headend_frames.specs.Frames.{invalidFields, invalidOctets, HeadOpened, openedFor}
 use Rattle.headend_frames.specs.FrameCalled.{openCalled, Openable}
 
@@ -94,22 +94,22 @@ module _ (h : HeadEnd) (bad len : ℕ) (s : Found) (address said : ℕ) where
     openable a e =
         record {
           key = λ q. let m = met-two (answerNumber a) (ap answerNumber e) (λ x. omega (arith, x, q)) (λ x. omega (arith, x, q)) in (m .1, m .2);
-          told = λ q. let m = met-two (answerNumber a) (ap answerNumber e) (λ x. omega (arith, x, q)) (λ x. omega (arith, x, q)) in (m .0, m .3);
+          invalid-fits = λ q. let m = met-two (answerNumber a) (ap answerNumber e) (λ x. omega (arith, x, q)) (λ x. omega (arith, x, q)) in (m .0, m .3);
         }
 
 -- ---- a TEK Invalid
 pub tek-invalid-fits : (k : Known) (said : ℕ) → said ≤ 16383 → fieldsFit (invalidFields k said) ≡ true
-unfolding fieldsFit headFits needs neededOf among descriptorsZero placeFit descriptorZero paramsZero keyOctetsZero zeroPast allZero
+unfolding fieldsFit headFits isRequired requiredOf among descriptorsZero placeFit descriptorZero paramsZero keyOctetsZero zeroPast allZero
 tek-invalid-fits k said small =
     let low : (k .entry .keys .next .0 + 15) % 16 ≤ 15 = omega arith in
     simp (le-leb ((k .entry .keys .next .0 + 15) % 16) 15 low, le-leb said 16383 small)
 
 pub tek-invalid-length : (k : Known) (said : ℕ) (key : List ℕ) → length (messageOf (invalidFields k said) key noDigest) ≡ 40
-unfolding messageOf message itemsOf itemsOfTypes itemsOfType neededOf octets attrOctets two
+unfolding messageOf message itemsOf itemsOfTypes itemsOfType requiredOf octets attrOctets two
 tek-invalid-length k said key = refl
 
 pub tek-invalid-writable : (k : Known) (said lent : ℕ) → said ≤ 16383 → 40 ≤ lent → Writable (invalidFields k said) [] lent
-unfolding authKeyFits needs neededOf among
+unfolding authKeyFits isRequired requiredOf among
 tek-invalid-writable k said lent small room =
     record {
       fields = λ q. tek-invalid-fits k said small;
@@ -172,8 +172,8 @@ module _ (h : HeadEnd) (s : Found) (address said : ℕ) (number : TekNumber) (te
   abbrev call-of : Answer → HeadEnd → ℕ → ℕ → OpenedCall
   call-of a next w n = record { answer = a; state = next; width = w; count = n }
 
-  abbrev told : List ℕ
-  told = invalidOctets h (knownOf h address) said
+  abbrev sent : List ℕ
+  sent = invalidOctets h (knownOf h address) said
 
   abbrev octets-of : Opening → ℕ → KeyOut
   octets-of o w = openedBy o w (s .held .older) (s .held .newer)
@@ -187,12 +187,12 @@ module _ (h : HeadEnd) (s : Found) (address said : ℕ) (number : TekNumber) (te
     counted-is : next ≡ countedBy (answerNumber a) h
     counted-is = is-next ∙ ap (λ (n : ℕ). countedBy n h) is-no
 
-    pub open-invalid : no ≡ 13 → (n : ℕ) (invalid′ : List ℕ) → (n ≡ length told) × (invalid′ ≡ overlay invalid told) → c ≡ call-of a next 0 n
+    pub open-invalid : no ≡ 13 → (n : ℕ) (invalid′ : List ℕ) → (n ≡ length sent) × (invalid′ ≡ overlay invalid sent) → c ≡ call-of a next 0 n
         → OpenSays (given a) c tek vector invalid tek vector invalid′
     open-invalid e n invalid′ put is-c = rw (is-c, counted-is, put .0) (go a (sym is-no ∙ e))
       where
         go : (b : Answer) → answerNumber b ≡ 13
-            → OpenSays (given b) (call-of b (countedBy (answerNumber b) h) 0 (length told)) tek vector invalid tek vector invalid′
+            → OpenSays (given b) (call-of b (countedBy (answerNumber b) h) 0 (length sent)) tek vector invalid tek vector invalid′
         go Done q = absurd (omega arith)
         go (Refused r) q = rw q (refl, refl, refl, put .1)
 

@@ -2,11 +2,11 @@
 use mathlib.Core.List.{List}
 use Prim.Native.Nat.{ℕ}
 use lib.ListN.{length}
-use Rattle.key_numbers.specs.declared.numbers.TekNumber.{TekNumber}
-use Rattle.keys.specs.Sealing.{Sealed}
-use Rattle.association.specs.declared.record.Assoc.{Assoc}
-use Rattle.association.specs.declared.search.Probe.the-variants.{OfSaid}
-use Rattle.records.specs.Records.{firstOf, lookupOf}
+use Rattle.key_traffic.specs.declared.numbers.TekNumber.{TekNumber}
+use Rattle.key_traffic.specs.Sealing.{Sealed}
+use Rattle.key_association.specs.declared.record.Assoc.{Assoc}
+use Rattle.key_association.specs.declared.search.Probe.the-variants.{OfSaid}
+use Rattle.key_records.specs.Records.{firstOf, lookupOf}
 use Rattle.headend_state.specs.declared.state.HeadEnd.{HeadEnd}
 use Rattle.headend_limits.specs.Search.{outOfLimits}
 use Rattle.headend_frames.specs.Frames.{sealedWith, HeadOpened, openedWith}

@@ -3,21 +3,21 @@ use mathlib.Core.Bool.{cond}
 use mathlib.Core.List.{List, []}
 use Prim.Native.Nat.{ℕ}
 use lib.Dec.{ltb, eqb}
-use Rattle.key_numbers.specs.declared.numbers.TekNumber.{TekNumber}
+use Rattle.key_traffic.specs.declared.numbers.TekNumber.{TekNumber}
 use Rattle.questions.specs.declared.refusal.Answer.{Answer}
 use Rattle.questions.specs.declared.refusal.Answer.the-variants.{Done, Refused}
-use Rattle.keys.specs.Suites.{widthOf}
+use Rattle.key_traffic.specs.Suites.{widthOf}
 use Rattle.questions.specs.Refusal.{answerNumber}
-use Rattle.keys.specs.Sealing.{KeyOut, noOut, Sealed, sealedFor, openedBy}
-use Rattle.association.specs.declared.search.Found.{Found}
-use Rattle.wire.specs.declared.fields.Fields.{Fields}
-use Rattle.wire.specs.Writing.{messageOf, noDigest}
+use Rattle.key_traffic.specs.Sealing.{KeyOut, noOut, Sealed, sealedFor, openedBy}
+use Rattle.key_association.specs.declared.search.Found.{Found}
+use Rattle.message_rules.specs.declared.fields.Fields.{Fields}
+use Rattle.message_rules.specs.Writing.{messageOf, noDigest}
 use Rattle.headend_state.specs.declared.state.HeadEnd.{HeadEnd}
 use Rattle.headend_state.specs.declared.entries.Known.{Known}
 use Rattle.headend_state.specs.Authorization.{newestNumber}
 use Rattle.headend_state.specs.Entries.{knownOf}
-use Rattle.answer_fields.specs.AnswerFields.{errorAnswer}
-use Rattle.headend_frame_questions.specs.FrameQuestions.{sealAnswer, openingIn, openAnswer, countedBy}
+use Rattle.headend_answers.specs.AnswerFields.{errorAnswer}
+use Rattle.headend_frames.specs.FrameQuestions.{sealAnswer, openingIn, openAnswer, countedBy}
 
 -- Sealing: with the older key
 unfoldable pub sealedWith : HeadEnd → ℕ → ℕ → Found → ℕ → ℕ → ℕ → ℕ → Sealed

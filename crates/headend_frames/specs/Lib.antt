@@ -1,3 +1,4 @@
+pub mod FrameQuestions
 pub mod Frames
 pub mod FrameCalled
 pub mod FrameCalls

@@ -2,27 +2,31 @@
 ghost use mathlib.Core.Path.{_≡_};
 ghost use Prim.Native.Nat.{_≤_};
 ghost use lib.ListN.{length};
-ghost use Rattle.keys.specs.Octets.{overlay};
-ghost use Rattle.keys.specs.Sealing.{sealCalled};
+ghost use Rattle.key_traffic.specs.Octets.{overlay};
+ghost use Rattle.key_traffic.specs.Sealing.{SealGives};
 ghost use Rattle.headend_state.specs.Entries.{knownOf};
 ghost use Rattle.headend_frames.specs.Frames.{sealedWith, invalidOctets, openedFor, openedWith};
-ghost use Rattle.headend_frames.specs.FrameCalled.{openCalled, Openable};
-use answer_fields::fields::error_answer;
-use association::search::Found;
-use headend_frame_questions::asked::counted;
-use headend_frame_questions::asked::open_answer;
-use headend_frame_questions::asked::seal_answer;
+ghost use Rattle.headend_frames.specs.FrameCalled.{Openable, OpenGives};
+use crate::rules::counted;
+use crate::rules::open_answer;
+use crate::rules::seal_answer;
+use headend_answers::fields::error_answer;
 use headend_state::authorization::newest;
 use headend_state::entries::entry_of;
 use headend_state::state::HeadEnd;
 use headend_steps::receive::put_answer;
-use key_numbers::numbers::TekNumber;
-use keys::frame::decide;
-use keys::sealing::SealedCall;
-use keys::sealing::put_key;
-use keys::sealing::put_opened;
-use keys::suites::width;
+use key_association::search::Found;
+use key_traffic::frame::decide;
+use key_traffic::numbers::TekNumber;
+use key_traffic::sealing::SealedCall;
+use key_traffic::sealing::put_key;
+use key_traffic::sealing::put_opened;
+use key_traffic::suites::width;
+use message_rules::codes::CODE_TEK_INVALID;
+use message_rules::codes::ERROR_KEY_NUMBER;
 use questions::refusal::Answer;
+use questions::refusal::DONE;
+use questions::refusal::NO_KEY_FOR_FRAME;
 use questions::refusal::answer_number;
 use questions::refusal::is_done;
 
@@ -57,7 +61,7 @@ fn put_invalid(h: HeadEnd, address: u64, said: u16, out: &mut [u8]) -> usize
     if keys.newer <= h.clock {
         return 0;
     }
-    let f = error_answer(11, 0, newest(keys), said, 4);
+    let f = error_answer(CODE_TEK_INVALID, 0, newest(keys), said, ERROR_KEY_NUMBER);
     let none = [0u8; 1];
     let key = &none[..0];
     put_answer(f, key, out)
@@ -74,9 +78,8 @@ pub fn seal_called(
     tek: &mut [u8],
     vector: &mut [u8],
 ) -> SealedCall
-    ensures { λ c. ⌜ (c ≡ sealCalled (sealedWith h bad len s address said (length (now (tek .entry))) (length (now (vector .entry)))))
-        × (now (tek .exit) ≡ overlay (now (tek .entry)) (sealedWith h bad len s address said (length (now (tek .entry))) (length (now (vector .entry))) .out .tek))
-        × (now (vector .exit) ≡ overlay (now (vector .entry)) (sealedWith h bad len s address said (length (now (tek .entry))) (length (now (vector .entry))) .out .vector)) ⌝ }
+    ensures { λ c. ⌜ SealGives (sealedWith h bad len s address said (length (now (tek .entry))) (length (now (vector .entry))))
+        (now (tek .entry)) (now (vector .entry)) c (now (tek .exit)) (now (vector .exit)) ⌝ }
 {
     let a = seal_answer(h, bad, len, s, address, said, tek.len(), vector.len());
     if !is_done(a) {
@@ -111,18 +114,16 @@ fn open_by(
     invalid: &mut [u8],
 ) -> OpenedCall
     requires { ⌜ Openable a said (length (now tek)) (length (now vector)) (length (now invalid)) ⌝ }
-    ensures { λ c. ⌜ (c ≡ openCalled (openedFor a h s address said number))
-        × (now (tek .exit) ≡ overlay (now (tek .entry)) (openedFor a h s address said number .out .tek))
-        × (now (vector .exit) ≡ overlay (now (vector .entry)) (openedFor a h s address said number .out .vector))
-        × (now (invalid .exit) ≡ overlay (now (invalid .entry)) (openedFor a h s address said number .invalid)) ⌝ }
+    ensures { λ c. ⌜ OpenGives (openedFor a h s address said number)
+        (now (tek .entry)) (now (vector .entry)) (now (invalid .entry)) c (now (tek .exit)) (now (vector .exit)) (now (invalid .exit)) ⌝ }
 {
     let no = answer_number(a);
     let next = counted(no, h);
-    if no == 13 {
+    if no == NO_KEY_FOR_FRAME {
         let n = put_invalid(h, address, said, invalid);
         return opened_call(a, next, 0, n);
     }
-    if no != 0 {
+    if no != DONE {
         return opened_call(a, next, 0, 0);
     }
     let record = s.held;
@@ -147,10 +148,8 @@ pub fn open_called(
     vector: &mut [u8],
     invalid: &mut [u8],
 ) -> OpenedCall
-    ensures { λ c. ⌜ (c ≡ openCalled (openedWith h bad len s direction address said number (length (now (tek .entry))) (length (now (vector .entry))) (length (now (invalid .entry)))))
-        × (now (tek .exit) ≡ overlay (now (tek .entry)) (openedWith h bad len s direction address said number (length (now (tek .entry))) (length (now (vector .entry))) (length (now (invalid .entry))) .out .tek))
-        × (now (vector .exit) ≡ overlay (now (vector .entry)) (openedWith h bad len s direction address said number (length (now (tek .entry))) (length (now (vector .entry))) (length (now (invalid .entry))) .out .vector))
-        × (now (invalid .exit) ≡ overlay (now (invalid .entry)) (openedWith h bad len s direction address said number (length (now (tek .entry))) (length (now (vector .entry))) (length (now (invalid .entry))) .invalid)) ⌝ }
+    ensures { λ c. ⌜ OpenGives (openedWith h bad len s direction address said number (length (now (tek .entry))) (length (now (vector .entry))) (length (now (invalid .entry))))
+        (now (tek .entry)) (now (vector .entry)) (now (invalid .entry)) c (now (tek .exit)) (now (vector .exit)) (now (invalid .exit)) ⌝ }
 {
     let a = open_answer(
         h,

@@ -11,7 +11,7 @@ use borrow.Author.Tests.{leb-true, le-leb, ltb-true, lt-ltb, le-ltb, eqb-true}
 use Rattle.questions.specs.Settings.{lifeFits, tekTimesFit, akTimesFit, settingsFit}
 use Rattle.questions.proofs.TestLaws.{both, either}
 use Rattle.questions.proofs.ListLaws.{IfLt, if-lt}
-use Rattle.wire.proofs.HoldsLaws.{never}
+use Rattle.message_rules.proofs.HoldsLaws.{never}
 use Rattle.headend_state.specs.declared.state.AuthKeys.{AuthKeys}
 use Rattle.headend_state.specs.declared.state.Entry.{Entry}
 use Rattle.headend_state.specs.declared.state.HeadEnd.{HeadEnd}
@@ -19,8 +19,8 @@ use Rattle.headend_state.specs.declared.entries.Known.{Known}
 use Rattle.headend_state.specs.State.{noEntry}
 use Rattle.headend_state.specs.Authorization.{Countable, newestNumber, activeOf, keepIf, keysBy, keysFor, lifeLeft}
 use Rattle.headend_state.specs.Entries.{entriesOf, hereOr, knownFrom, knownOf}
-use Rattle.keys.specs.Addresses.{addressFits}
-use Rattle.headend_limits.specs.Limits.{listingFits, saidsDiffer, later, authKeysFit, entryFits, allApart, entriesFrom, headFits}
+use Rattle.key_traffic.specs.Addresses.{addressFits}
+use Rattle.headend_limits.specs.Limits.{listingFits, saidsDiffer, maximum, authKeysFit, entryFits, allApart, entriesFrom, headFits}
 use Rattle.headend_limits.specs.Search.{halfIn}
 use Rattle.headend_limits.proofs.ListingLaws.{ListingIn, listing-facts}
 
@@ -57,7 +57,7 @@ module _ (life clock : ℕ) (k : AuthKeys) where
       let s₃ = both _ _ e in
       let s₂ = both _ _ (s₃ .0) in
       let s₁ = both _ _ (s₂ .0) in
-      let far : k .newer ≤ later clock (k .older) + life = leb-true _ _ (s₂ .1) in
+      let far : k .newer ≤ maximum clock (k .older) + life = leb-true _ _ (s₂ .1) in
       let r = rises (either _ _ (s₃ .1)) in
       record {
         number = leb-true _ _ (s₁ .0);
@@ -68,7 +68,7 @@ module _ (life clock : ℕ) (k : AuthKeys) where
         rising = r;
       }
 
-  far-by : KeysIn life clock k → leb (k .newer) (later clock (k .older) + life) ≡ true
+  far-by : KeysIn life clock k → leb (k .newer) (maximum clock (k .older) + life) ≡ true
   far-by i = go (ltb clock (k .older)) (if-lt clock (k .older))
     where
       go : (b : Bool) → IfLt clock (k .older) b → leb (k .newer) (cond b (k .older) clock + life) ≡ true

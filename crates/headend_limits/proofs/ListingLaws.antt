@@ -6,11 +6,11 @@ use Prim.Native.Nat.{ℕ, zero, suc, _≤_, _<_}
 use native.Mathlib.Omega.{arith}
 use lib.Dec.{leb, ltb, eqb}
 use borrow.Author.Tests.{leb-true, ltb-true, lt-ltb, eqb-true, eq-eqb, lt-leb, not-true}
-use Rattle.keys.specs.Suites.{suiteKnown}
+use Rattle.key_traffic.specs.Suites.{suiteKnown}
 use Rattle.questions.proofs.TestLaws.{both, either}
-use Rattle.wire.proofs.HoldsLaws.{never}
-use Rattle.association.specs.declared.listing.Listing.{Listing}
-use Rattle.association.specs.Listing.{namesOf}
+use Rattle.message_rules.proofs.HoldsLaws.{never}
+use Rattle.key_association.specs.declared.listing.Listing.{Listing}
+use Rattle.key_association.specs.Listing.{namesOf}
 use Rattle.headend_state.specs.Entries.{saidAt, suiteAt, lists}
 use Rattle.headend_limits.specs.Limits.{placeFits, listingFits, newAt, saidsDiffer}
 

@@ -4,7 +4,7 @@ use mathlib.Core.Bool.{Bool, true, false, _&&_}
 use mathlib.Core.List.{List, [], _∷_, _++_}
 use Prim.Native.Nat.{ℕ, _+_}
 use lib.ListN.{length, take, drop}
-use Rattle.association.specs.declared.listing.Listing.{Listing}
+use Rattle.key_association.specs.declared.listing.Listing.{Listing}
 use Rattle.headend_state.specs.declared.state.Entry.{Entry}
 use Rattle.headend_limits.specs.Limits.{entryFits, isApart, allApart, entriesFrom}
 use Rattle.headend_state.proofs.EntriesLaws.{none-left}
@@ -23,8 +23,8 @@ module _ (es : List Entry) (i : ℕ) (e : Entry) (here : drop i es ≡ e ∷ dro
 
     pub apart-yes : isApart address l e ≡ true → allApart address l (drop (i + 1) es) ≡ allApart address l es
     apart-yes apart =
-        let later : allApart address l (drop i es) ≡ allApart address l (drop (i + 1) es) = apart-here ∙ simp apart in
-        sym later ∙ passed
+        let maximum : allApart address l (drop i es) ≡ allApart address l (drop (i + 1) es) = apart-here ∙ simp apart in
+        sym maximum ∙ passed
 
   -- ---- limits, and apart from those before
   module _ (life clock : ℕ) (next : take (i + 1) es ≡ take i es ++ (e ∷ [])) (passed : entriesFrom life clock (take i es) (drop i es) ≡ entriesFrom life clock [] es) where
@@ -47,8 +47,8 @@ module _ (es : List Entry) (i : ℕ) (e : Entry) (here : drop i es ≡ e ∷ dro
 
     pub entry-yes : Good ≡ true → later-fit ≡ entriesFrom life clock [] es
     entry-yes good =
-        let later : entriesFrom life clock (take i es) (drop i es) ≡ later-fit = entry-here ∙ ap (λ (b : Bool). b && later-fit) good in
-        sym later ∙ passed
+        let maximum : entriesFrom life clock (take i es) (drop i es) ≡ later-fit = entry-here ∙ ap (λ (b : Bool). b && later-fit) good in
+        sym maximum ∙ passed
 
 -- ---- where all are passed
 module _ (es : List Entry) (i : ℕ) (over : i ≡ length es) where

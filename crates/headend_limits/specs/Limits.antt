@@ -3,12 +3,12 @@ use mathlib.Core.Bool.{Bool, true, cond, _&&_, _||_, not}
 use mathlib.Core.List.{List, [], _∷_, _++_}
 use Prim.Native.Nat.{ℕ, _+_}
 use lib.Dec.{leb, ltb, eqb}
-use Rattle.key_numbers.specs.Numbers.{akInRange}
+use Rattle.key_traffic.specs.Numbers.{akInRange}
 use Rattle.questions.specs.Settings.{settingsFit}
-use Rattle.keys.specs.Suites.{suiteKnown}
-use Rattle.association.specs.declared.listing.Listing.{Listing}
-use Rattle.association.specs.Listing.{namesOf}
-use Rattle.keys.specs.Addresses.{saidFits, addressFits}
+use Rattle.key_traffic.specs.Suites.{suiteKnown}
+use Rattle.key_association.specs.declared.listing.Listing.{Listing}
+use Rattle.key_association.specs.Listing.{namesOf}
+use Rattle.key_traffic.specs.Addresses.{saidFits, addressFits}
 use Rattle.headend_state.specs.declared.state.AuthKeys.{AuthKeys}
 use Rattle.headend_state.specs.declared.state.Entry.{Entry}
 use Rattle.headend_state.specs.declared.state.HeadEnd.{HeadEnd}
@@ -35,8 +35,8 @@ unfoldable pub saidsDiffer : Listing → Bool
 saidsDiffer l = newAt l 1 && newAt l 2 && newAt l 3
 
 -- ---- an entry
-abbrev pub later : ℕ → ℕ → ℕ
-later a b = cond (ltb a b) b a
+abbrev pub maximum : ℕ → ℕ → ℕ
+maximum a b = cond (ltb a b) b a
 
 -- The older key runs out at most A after the clock; the newer at most A after the older, or after the clock where the older is past;
 -- and after the older, unless there is none
@@ -44,7 +44,7 @@ unfoldable pub authKeysFit : ℕ → ℕ → AuthKeys → Bool
 authKeysFit life clock k =
     akInRange (k .next)
     && leb (k .older) (clock + life)
-    && leb (k .newer) (later clock (k .older) + life)
+    && leb (k .newer) (maximum clock (k .older) + life)
     && (ltb (k .older) (k .newer) || (eqb (k .older) 0 && eqb (k .newer) 0))
 
 unfoldable pub entryFits : ℕ → ℕ → Entry → Bool

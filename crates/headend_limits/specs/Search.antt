@@ -3,12 +3,12 @@ use mathlib.Core.Bool.{Bool, _&&_, _||_}
 use Prim.Native.Nat.{ℕ}
 use lib.Dec.{leb, ltb}
 use Rattle.questions.specs.Settings.{halfOf}
-use Rattle.association.specs.declared.listing.Listing.{Listing}
-use Rattle.association.specs.declared.search.Found.{Found}
-use Rattle.association.specs.declared.search.Probe.{Probe}
-use Rattle.association.specs.declared.search.Probe.the-variants.{OfSaid, OutOfLimits, OfOneOf}
-use Rattle.association.specs.Record.{recordFits}
-use Rattle.wire.specs.declared.fields.Reading.{Reading}
+use Rattle.key_association.specs.declared.listing.Listing.{Listing}
+use Rattle.key_association.specs.declared.search.Found.{Found}
+use Rattle.key_association.specs.declared.search.Probe.{Probe}
+use Rattle.key_association.specs.declared.search.Probe.the-variants.{OfSaid, OutOfLimits, OfOneOf}
+use Rattle.key_association.specs.Record.{recordFits}
+use Rattle.message_rules.specs.declared.fields.Reading.{Reading}
 use Rattle.headend_state.specs.declared.state.HeadEnd.{HeadEnd}
 use Rattle.headend_state.specs.declared.entries.Known.{Known}
 use Rattle.headend_state.specs.Entries.{saidAt, listsSuite}

@@ -3,26 +3,34 @@ ghost use mathlib.Core.Path.{_≡_};
 ghost use mathlib.Core.List.{[]};
 ghost use Prim.Native.Nat.{_<_};
 ghost use lib.ListN.{take};
-ghost use Rattle.keys.specs.Addresses.{addressFits};
-ghost use Rattle.headend_limits.specs.Limits.{placeFits, listingFits, newAt, saidsDiffer, later, authKeysFit, entryFits, sharesAt, shares, isApart, allApart, entriesFrom, headFits};
-use association::listing::Listing;
-use association::listing::is_named;
-use association::record::said_fits;
+ghost use Rattle.key_traffic.specs.Addresses.{addressFits};
+ghost use Rattle.headend_limits.specs.Limits.{placeFits, listingFits, newAt, saidsDiffer, maximum, authKeysFit, entryFits, sharesAt, shares, isApart, allApart, entriesFrom, headFits};
 use headend_state::entries::in_use;
 use headend_state::entries::is_listing;
+use headend_state::state::ALLOWED;
 use headend_state::state::AuthKeys;
 use headend_state::state::Entry;
 use headend_state::state::HeadEnd;
-use key_numbers::numbers::ak_in_range;
-use keys::suites::suite_known;
-use keys::traffic::is_within;
+use headend_state::state::NO_DEADLINE;
+use key_association::listing::Listing;
+use key_association::listing::is_named;
+use key_association::record::said_fits;
+use key_traffic::numbers::ak_in_range;
+use key_traffic::suites::suite_known;
+use key_traffic::traffic::is_within;
+use questions::limits::ADDRESS_BOUND;
+use questions::limits::CLOCK_MAX;
+use questions::limits::MODEMS_MAX;
+use questions::limits::RECORDS_MAX;
+use questions::limits::SAIDS_MAX;
+use questions::limits::SAIDS_MIN;
 use questions::settings::settings_fit;
 
 // An address has 48 bits.
 pub fn address_fits(address: u64) -> bool
     ensures { λ r. ⌜ r ≡ addressFits address ⌝ }
 {
-    address < 281474976710656
+    address < ADDRESS_BOUND
 }
 
 fn place_fits(l: Listing, i: usize) -> bool
@@ -38,8 +46,8 @@ fn place_fits(l: Listing, i: usize) -> bool
 pub fn listing_fits(l: Listing) -> bool
     ensures { λ r. ⌜ r ≡ listingFits l ⌝ }
 {
-    (1 <= l.count)
-        & (l.count <= 4)
+    (SAIDS_MIN <= l.count)
+        & (l.count <= SAIDS_MAX)
         & place_fits(l, 0)
         & place_fits(l, 1)
         & place_fits(l, 2)
@@ -62,8 +70,8 @@ pub fn saids_differ(l: Listing) -> bool
     is_new_at(l, 1) & is_new_at(l, 2) & is_new_at(l, 3)
 }
 
-fn later(a: u64, b: u64) -> u64
-    ensures { λ r. ⌜ r ≡ later a b ⌝ }
+fn maximum(a: u64, b: u64) -> u64
+    ensures { λ r. ⌜ r ≡ maximum a b ⌝ }
 {
     if a < b {
         return b;
@@ -76,8 +84,8 @@ fn auth_keys_fit(life: u64, clock: u64, k: AuthKeys) -> bool
 {
     ak_in_range(k.next)
         & is_within(k.older, clock, life)
-        & is_within(k.newer, later(clock, k.older), life)
-        & ((k.older < k.newer) | ((k.older == 0) & (k.newer == 0)))
+        & is_within(k.newer, maximum(clock, k.older), life)
+        & ((k.older < k.newer) | ((k.older == NO_DEADLINE) & (k.newer == NO_DEADLINE)))
 }
 
 fn entry_fits(life: u64, clock: u64, e: Entry) -> bool
@@ -86,7 +94,7 @@ fn entry_fits(life: u64, clock: u64, e: Entry) -> bool
     let l = e.listing;
     let k = e.keys;
     address_fits(e.address)
-        & (e.allowed <= 1)
+        & (e.allowed <= ALLOWED)
         & listing_fits(l)
         & saids_differ(l)
         & auth_keys_fit(life, clock, k)
@@ -119,7 +127,7 @@ fn is_apart(address: u64, l: Listing, e: Entry) -> bool
 }
 
 // Whether the first few entries all are apart from an address and a listing.
-pub fn all_apart(entries: [Entry; 16], n: usize, address: u64, l: Listing) -> bool
+pub fn all_apart(entries: [Entry; MODEMS_MAX], n: usize, address: u64, l: Listing) -> bool
     ensures { λ r. ⌜ r ≡ allApart address l (take n entries) ⌝ }
 {
     let end = in_use(n);
@@ -135,7 +143,7 @@ pub fn all_apart(entries: [Entry; 16], n: usize, address: u64, l: Listing) -> bo
 }
 
 // Whether the entries in use are within the limits, each apart from those before it.
-fn entries_fit(entries: [Entry; 16], n: usize, life: u64, clock: u64) -> bool
+fn entries_fit(entries: [Entry; MODEMS_MAX], n: usize, life: u64, clock: u64) -> bool
     ensures { λ r. ⌜ r ≡ entriesFrom life clock [] (take n entries) ⌝ }
 {
     let end = in_use(n);
@@ -151,6 +159,7 @@ fn entries_fit(entries: [Entry; 16], n: usize, life: u64, clock: u64) -> bool
     true
 }
 
+// Question 1 of the head-end's state.
 pub fn head_fits(h: HeadEnd) -> bool
     ensures { λ r. ⌜ r ≡ headFits h ⌝ }
 {
@@ -158,8 +167,8 @@ pub fn head_fits(h: HeadEnd) -> bool
     let ak = settings.ak;
     let entries = h.entries;
     settings_fit(settings)
-        & (h.clock <= 1000000000000)
-        & (h.modems <= 16)
-        & (h.used <= 64)
+        & (h.clock <= CLOCK_MAX)
+        & (h.modems <= MODEMS_MAX)
+        & (h.used <= RECORDS_MAX)
         & entries_fit(entries, h.modems, ak.life, h.clock)
 }

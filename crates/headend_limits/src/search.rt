@@ -1,16 +1,16 @@
 // What the calls look for in the lent records.
 ghost use mathlib.Core.Path.{_≡_};
-ghost use Rattle.association.specs.declared.search.Probe.the-variants.{OfSaid};
+ghost use Rattle.key_association.specs.declared.search.Probe.the-variants.{OfSaid};
 ghost use Rattle.headend_limits.specs.Search.{halfIn, outOfLimits, oneOf, recordsFit, ofRequest, foundSuits};
-use association::listing::Listing;
-use association::record::record_fits;
-use association::search::Found;
-use association::search::Probe;
 use headend_state::entries::Known;
 use headend_state::entries::is_listing_suite;
 use headend_state::state::HeadEnd;
+use key_association::listing::Listing;
+use key_association::record::record_fits;
+use key_association::search::Found;
+use key_association::search::Probe;
+use message_rules::fields::Reading;
 use questions::settings::half;
-use wire::fields::Reading;
 
 // H, by the head-end's settings.
 pub fn half_in(h: HeadEnd) -> u64

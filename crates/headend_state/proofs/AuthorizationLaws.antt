@@ -5,8 +5,8 @@ use mathlib.Core.List.{[]}
 use Prim.Native.Nat.{ℕ, _+_, _<_, _≤_}
 use lib.Dec.{ltb}
 use borrow.Author.Tests.{lt-ltb, le-ltb}
-use Rattle.key_numbers.specs.Numbers.{sameAk, akAfter}
-use Rattle.key_numbers.specs.declared.numbers.AkNumber.{AkNumber}
+use Rattle.key_traffic.specs.Numbers.{sameAk, akAfter}
+use Rattle.key_traffic.specs.declared.numbers.AkNumber.{AkNumber}
 use Rattle.headend_state.specs.declared.state.AuthKeys.{AuthKeys}
 use Rattle.headend_state.specs.Authorization.{AuthKey, keepIf, activeOf, hasNumber, isActive, keysFor, newestNumber, withKey}
 

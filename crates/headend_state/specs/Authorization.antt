@@ -3,8 +3,8 @@ use mathlib.Core.Bool.{Bool, true, false, _||_}
 use mathlib.Core.List.{List, [], _∷_}
 use Prim.Native.Nat.{ℕ, _+_, _-_, _*_, _≤_}
 use lib.Dec.{ltb}
-use Rattle.key_numbers.specs.Numbers.{sameAk, akAfter}
-use Rattle.key_numbers.specs.declared.numbers.AkNumber.{AkNumber}
+use Rattle.key_traffic.specs.Numbers.{sameAk, akAfter}
+use Rattle.key_traffic.specs.declared.numbers.AkNumber.{AkNumber}
 use Rattle.headend_state.specs.declared.state.AuthKeys.{AuthKeys}
 
 pub record AuthKey : Type 0 where

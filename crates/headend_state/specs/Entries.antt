@@ -4,8 +4,8 @@ use mathlib.Core.List.{List, [], _∷_}
 use Prim.Native.Nat.{ℕ, suc}
 use lib.Dec.{ltb, eqb}
 use lib.ListN.{getD, set, take}
-use Rattle.association.specs.declared.listing.Listing.{Listing}
-use Rattle.association.specs.Listing.{namesOf}
+use Rattle.key_association.specs.declared.listing.Listing.{Listing}
+use Rattle.key_association.specs.Listing.{namesOf}
 use Rattle.headend_state.specs.declared.state.Entry.{Entry}
 use Rattle.headend_state.specs.declared.state.HeadEnd.{HeadEnd}
 use Rattle.headend_state.specs.declared.entries.Known.{Known}

@@ -4,7 +4,7 @@ use mathlib.Core.List.{List}
 use lib.ListN.{replicate}
 use Rattle.questions.specs.declared.refusal.Answer.{Answer}
 use Rattle.questions.specs.declared.settings.Settings.{Settings}
-use Rattle.association.specs.Listing.{noListing}
+use Rattle.key_association.specs.Listing.{noListing}
 use Rattle.headend_state.specs.declared.state.AuthKeys.{AuthKeys}
 use Rattle.headend_state.specs.declared.state.Entry.{Entry}
 use Rattle.headend_state.specs.declared.state.HeadEnd.{HeadEnd}

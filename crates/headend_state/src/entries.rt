@@ -6,8 +6,9 @@ ghost use Rattle.headend_state.specs.Entries.{inUse, knownHere, knownNon
 use crate::state::Entry;
 use crate::state::HeadEnd;
 use crate::state::no_entry;
-use association::listing::Listing;
-use association::listing::is_named;
+use key_association::listing::Listing;
+use key_association::listing::is_named;
+use questions::limits::MODEMS_MAX;
 
 // What a search by address found: the entry and its place, or no entry and the number of entries in use.
 pub struct Known {
@@ -20,10 +21,10 @@ pub struct Known {
 pub fn in_use(modems: usize) -> usize
     ensures { λ r. ⌜ (r ≡ inUse modems) × (r ≤ 16) ⌝ }
 {
-    if modems < 16 {
+    if modems < MODEMS_MAX {
         return modems;
     }
-    16
+    MODEMS_MAX
 }
 
 fn known_here(at: usize, e: Entry) -> Known
@@ -47,7 +48,7 @@ fn known_none(at: usize) -> Known
     }
 }
 
-fn known_in(entries: [Entry; 16], modems: usize, address: u64) -> Known
+fn known_in(entries: [Entry; MODEMS_MAX], modems: usize, address: u64) -> Known
     ensures { λ r. ⌜ r ≡ knownFrom address 0 (take modems entries) ⌝ }
 {
     let n = in_use(modems);
@@ -70,10 +71,10 @@ pub fn entry_of(h: HeadEnd, address: u64) -> Known
     known_in(entries, h.modems, address)
 }
 
-fn set_at(entries: [Entry; 16], at: usize, e: Entry) -> [Entry; 16]
+fn set_at(entries: [Entry; MODEMS_MAX], at: usize, e: Entry) -> [Entry; MODEMS_MAX]
     ensures { λ r. ⌜ r ≡ set entries at e ⌝ }
 {
-    if 16 <= at {
+    if MODEMS_MAX <= at {
         return entries;
     }
     let mut next = entries;

@@ -2,14 +2,23 @@
 ghost use mathlib.Core.Path.{_≡_};
 ghost use Rattle.questions.specs.Refusal.{answerNumber};
 ghost use Rattle.headend_state.specs.State.{noEntry, freshOf, answeredCall};
-use association::listing::Listing;
-use association::listing::no_listing;
-use key_numbers::numbers::AkNumber;
+use key_association::listing::Listing;
+use key_association::listing::no_listing;
+use key_traffic::numbers::AkNumber;
+use questions::limits::MODEMS_MAX;
 use questions::refusal::Answer;
 use questions::refusal::answer_number;
 use questions::settings::Settings;
 
-// The authorization keys of a modem: the number that the next one gets, and the deadlines of the last two made, 0 for none.
+// What `allowed` may be.
+pub const BARRED: u8 = 0;
+
+pub const ALLOWED: u8 = 1;
+
+// The deadline where no key is made.
+pub const NO_DEADLINE: u64 = 0;
+
+// The authorization keys of a modem: the number that the next one gets, and the deadlines of the last two made, or NO_DEADLINE.
 #[repr(C)]
 pub struct AuthKeys {
     pub next: AkNumber,
@@ -17,7 +26,7 @@ pub struct AuthKeys {
     pub newer: u64,
 }
 
-// What is kept of a listed modem; `allowed` is 1, or 0 for a barred one.
+// What is kept of a listed modem; `allowed` is ALLOWED or BARRED.
 #[repr(C)]
 pub struct Entry {
     pub address: u64,
@@ -32,7 +41,7 @@ pub struct HeadEnd {
     pub settings: Settings,
     pub clock: u64,
     pub modems: usize,
-    pub entries: [Entry; 16],
+    pub entries: [Entry; MODEMS_MAX],
     pub used: usize,
     pub taken: u64,
     pub refused: u64,
@@ -52,8 +61,8 @@ pub fn no_entry() -> Entry
     let listing = no_listing();
     let keys = AuthKeys {
         next: AkNumber(0),
-        older: 0,
-        newer: 0,
+        older: NO_DEADLINE,
+        newer: NO_DEADLINE,
     };
     Entry {
         address: 0,
@@ -72,7 +81,7 @@ pub fn fresh(settings: Settings) -> HeadEnd
         settings: settings,
         clock: 0,
         modems: 0,
-        entries: [e; 16],
+        entries: [e; MODEMS_MAX],
         used: 0,
         taken: 0,
         refused: 0,

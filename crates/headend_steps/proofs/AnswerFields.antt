@@ -8,54 +8,54 @@ use lib.Dec.{leb, ltb, eqb}
 use lib.ListN.{length, getD, take, length-append, length-take}
 use lib.Seq.{length-take-le}
 use borrow.Author.Tests.{le-leb, lt-leb, lt-ltb, ltb-true, ltb-false, ne-eqb}
-use Rattle.keys.specs.declared.traffic.TrafficKey.{TrafficKey}
-use Rattle.keys.specs.Octets.{allZero, zeroPast}
-use Rattle.keys.specs.Suites.{widthOf, suiteKnown, widthKnown}
-use Rattle.keys.specs.Traffic.{keyFits, follows}
+use Rattle.key_traffic.specs.declared.traffic.TrafficKey.{TrafficKey}
+use Rattle.key_traffic.specs.Octets.{allZero, zeroPast}
+use Rattle.key_traffic.specs.Suites.{widthOf, suiteKnown, widthKnown}
+use Rattle.key_traffic.specs.Traffic.{keyFits, follows}
 use Rattle.questions.proofs.TestLaws.{both}
-use Rattle.wire.specs.declared.fields.Descriptor.{Descriptor}
-use Rattle.wire.specs.declared.fields.Fields.{Fields}
-use Rattle.wire.specs.declared.fields.Params.{Params}
-use Rattle.wire.specs.Attributes.{two, four, attrOctets, octets}
-use Rattle.wire.specs.Ranges.{neededOf, among, needs}
-use Rattle.wire.specs.Messages.{isNone, different}
-use Rattle.wire.specs.Fields.{noDescriptor}
-use Rattle.wire.specs.Limits.{carriedOr, keyOctetsFit, keyOctetsZero, paramsFit, paramsZero, pairFit, descriptorFit, descriptorZero, placeFit, saidsOf, descriptorsFit, descriptorsZero, headFits, fieldsFit}
-use Rattle.wire.specs.Writing.{paramsItems, descriptorsItems, itemsOfType, itemsOfTypes, itemsOf, message, messageOf, noDigest}
-use Rattle.wire.proofs.HoldsLaws.{length-attr}
-use Rattle.wire.proofs.DescriptorsWritten.{length-descriptors}
-use Rattle.association.specs.declared.listing.Listing.{Listing}
-use Rattle.association.specs.declared.record.Assoc.{Assoc}
-use Rattle.association.proofs.RecordLaws.{InLimits}
+use Rattle.message_rules.specs.declared.fields.Descriptor.{Descriptor}
+use Rattle.message_rules.specs.declared.fields.Fields.{Fields}
+use Rattle.message_rules.specs.declared.fields.Params.{Params}
+use Rattle.message_rules.specs.Attributes.{two, four, attrOctets, octets}
+use Rattle.message_rules.specs.Ranges.{requiredOf, among, isRequired}
+use Rattle.message_rules.specs.Messages.{isNone, different}
+use Rattle.message_rules.specs.Fields.{noDescriptor}
+use Rattle.message_rules.specs.Limits.{carriedOr, keyOctetsFit, keyOctetsZero, paramsFit, paramsZero, pairFit, descriptorFit, descriptorZero, placeFit, saidsOf, descriptorsFit, descriptorsZero, headFits, fieldsFit}
+use Rattle.message_rules.specs.Writing.{paramsItems, descriptorsItems, itemsOfType, itemsOfTypes, itemsOf, message, messageOf, noDigest}
+use Rattle.message_rules.proofs.HoldsLaws.{length-attr}
+use Rattle.message_rules.proofs.DescriptorsWritten.{length-descriptors}
+use Rattle.key_association.specs.declared.listing.Listing.{Listing}
+use Rattle.key_association.specs.declared.record.Assoc.{Assoc}
+use Rattle.key_association.proofs.RecordLaws.{InLimits}
 use Rattle.headend_state.specs.declared.state.AuthKeys.{AuthKeys}
 use Rattle.headend_state.specs.Authorization.{lifeLeft}
 use Rattle.headend_state.specs.Entries.{saidAt}
-use Rattle.answer_fields.specs.AnswerFields.{reject, invalid, keyReject, descriptorAt, replyAnswer, paramsAt, keyReply}
+use Rattle.headend_answers.specs.AnswerFields.{reject, invalid, keyReject, descriptorAt, replyAnswer, paramsAt, keyReply}
 use Rattle.headend_limits.proofs.ListingLaws.{ListingIn, by-four}
 
 -- ---- answers with an error
 pub reject-fits : (i e : ℕ) → fieldsFit (reject i e) ≡ true
-unfolding fieldsFit headFits needs neededOf among descriptorsZero placeFit descriptorZero paramsZero keyOctetsZero zeroPast allZero
+unfolding fieldsFit headFits isRequired requiredOf among descriptorsZero placeFit descriptorZero paramsZero keyOctetsZero zeroPast allZero
 reject-fits i e = refl
 
 pub invalid-fits : (i e : ℕ) → fieldsFit (invalid i e) ≡ true
-unfolding fieldsFit headFits needs neededOf among descriptorsZero placeFit descriptorZero paramsZero keyOctetsZero zeroPast allZero
+unfolding fieldsFit headFits isRequired requiredOf among descriptorsZero placeFit descriptorZero paramsZero keyOctetsZero zeroPast allZero
 invalid-fits i e = refl
 
 pub key-reject-fits : (f : Fields) (e : ℕ) → f .ak .0 ≤ 15 → f .said ≤ 16383 → fieldsFit (keyReject f e) ≡ true
-unfolding fieldsFit headFits needs neededOf among descriptorsZero placeFit descriptorZero paramsZero keyOctetsZero zeroPast allZero
+unfolding fieldsFit headFits isRequired requiredOf among descriptorsZero placeFit descriptorZero paramsZero keyOctetsZero zeroPast allZero
 key-reject-fits f e low small = simp (le-leb (f .ak .0) 15 low, le-leb (f .said) 16383 small)
 
 pub reject-length : (i e : ℕ) (key : List ℕ) → length (messageOf (reject i e) key noDigest) ≡ 8
-unfolding messageOf message itemsOf itemsOfTypes itemsOfType neededOf octets attrOctets two
+unfolding messageOf message itemsOf itemsOfTypes itemsOfType requiredOf octets attrOctets two
 reject-length i e key = refl
 
 pub invalid-length : (i e : ℕ) (key : List ℕ) → length (messageOf (invalid i e) key noDigest) ≡ 8
-unfolding messageOf message itemsOf itemsOfTypes itemsOfType neededOf octets attrOctets two
+unfolding messageOf message itemsOf itemsOfTypes itemsOfType requiredOf octets attrOctets two
 invalid-length i e key = refl
 
 pub key-reject-length : (f : Fields) (e : ℕ) (key : List ℕ) → length (messageOf (keyReject f e) key noDigest) ≡ 40
-unfolding messageOf message itemsOf itemsOfTypes itemsOfType neededOf octets attrOctets two
+unfolding messageOf message itemsOf itemsOfTypes itemsOfType requiredOf octets attrOctets two
 key-reject-length f e key = refl
 
 -- ---- an Authorization Reply
@@ -124,7 +124,7 @@ module _ (l : Listing) (p : ListingIn l) where
 
 pub reply-fits : (clock i : ℕ) (l : Listing) (k : AuthKeys) → ListingIn l → 1 ≤ lifeLeft clock (k .newer) → lifeLeft clock (k .newer) ≤ 12096000
     → fieldsFit (replyAnswer clock i l k) ≡ true
-unfolding fieldsFit headFits needs neededOf among paramsZero keyOctetsZero zeroPast allZero
+unfolding fieldsFit headFits isRequired requiredOf among paramsZero keyOctetsZero zeroPast allZero
 reply-fits clock i l k p low high =
     let small : (k .next .0 + 15) % 16 ≤ 15 = omega arith in
     simp (
@@ -136,7 +136,7 @@ reply-fits clock i l k p low high =
 
 pub reply-length : (clock i : ℕ) (l : Listing) (k : AuthKeys) (key : List ℕ) → l .count ≤ 4
     → length (messageOf (replyAnswer clock i l k) key noDigest) ≡ 4 + (3 + length key) + 7 + 4 + 17 * l .count
-unfolding messageOf message itemsOf itemsOfTypes itemsOfType neededOf octets two four
+unfolding messageOf message itemsOf itemsOfTypes itemsOfType requiredOf octets two four
 reply-length clock i l k key few =
     let ds = descriptorAt l 0 ∷ descriptorAt l 1 ∷ descriptorAt l 2 ∷ descriptorAt l 3 ∷ [] in
     let d : length (octets (descriptorsItems (take (l .count) ds))) ≡ length (take (l .count) ds) * 17 = length-descriptors (take (l .count) ds) in
@@ -188,7 +188,7 @@ module _ (half clock : ℕ) (a : Assoc) (i : InLimits half clock a) (some : 1 �
       rw (older, newer, i .next, lt-ltb (a .older .deadline - clock) (a .newer .deadline - clock) less)
 
   pub key-reply-fits : (f : Fields) → f .ak .0 ≤ 15 → f .said ≤ 16383 → fieldsFit (keyReply clock a f) ≡ true
-  unfolding fieldsFit headFits needs neededOf among descriptorsZero placeFit descriptorZero
+  unfolding fieldsFit headFits isRequired requiredOf among descriptorsZero placeFit descriptorZero
   key-reply-fits f low small = simp (le-leb (f .ak .0) 15 low, le-leb (f .said) 16383 small, pair-at-fits)
 
 params-length : (p : Params) → length (octets (paramsItems p)) ≡ 3 + length (take (p .tek .width) (p .tek .octets)) + 7 + 4 + (3 + length (take (p .vector .width) (p .vector .octets)))
@@ -201,7 +201,7 @@ module _ (clock : ℕ) (a : Assoc) (f : Fields) (key : List ℕ) where
 
   reply-by : length (messageOf (keyReply clock a f) key noDigest)
       ≡ 4 + 4 + 5 + 6 + held (paramsAt clock (widthOf (a .suite)) (a .older)) (paramsAt clock (widthOf (a .suite)) (a .newer)) + 23
-  unfolding messageOf message itemsOf itemsOfTypes itemsOfType neededOf octets two
+  unfolding messageOf message itemsOf itemsOfTypes itemsOfType requiredOf octets two
   reply-by = simp (length-append, length-attr) (omega arith)
 
   pub key-reply-most : length (messageOf (keyReply clock a f) key noDigest) ≤ 140

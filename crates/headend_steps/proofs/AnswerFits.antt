@@ -8,21 +8,21 @@ use native.Mathlib.Omega.{arith}
 use lib.Dec.{leb, ltb, eqb}
 use lib.ListN.{length}
 use borrow.Author.Tests.{leb-true, le-leb, le-ltb, ltb-true, eqb-true}
-use Rattle.key_numbers.specs.declared.numbers.AkNumber.{AkNumber}
+use Rattle.key_traffic.specs.declared.numbers.AkNumber.{AkNumber}
 use Rattle.questions.specs.declared.refusal.Answer.the-variants.{Done}
 use Rattle.questions.proofs.TestLaws.{both, either}
-use Rattle.wire.specs.declared.fields.Fields.{Fields}
-use Rattle.wire.specs.declared.fields.Reading.{Reading}
-use Rattle.wire.specs.Ranges.{neededOf, among, needs}
-use Rattle.wire.specs.Fields.{noFields}
-use Rattle.wire.specs.Limits.{fieldsFit, authKeyFits}
-use Rattle.wire.specs.Writing.{messageOf, noDigest}
-use Rattle.wire.proofs.HoldsLaws.{never}
-use Rattle.association.specs.declared.listing.Listing.{Listing}
-use Rattle.association.specs.declared.record.Assoc.{Assoc}
-use Rattle.association.specs.declared.search.Found.{Found}
-use Rattle.association.specs.Record.{recordFits}
-use Rattle.association.proofs.RecordLaws.{InLimits, limits-of}
+use Rattle.message_rules.specs.declared.fields.Fields.{Fields}
+use Rattle.message_rules.specs.declared.fields.Reading.{Reading}
+use Rattle.message_rules.specs.Ranges.{requiredOf, among, isRequired}
+use Rattle.message_rules.specs.Fields.{noFields}
+use Rattle.message_rules.specs.Limits.{fieldsFit, authKeyFits}
+use Rattle.message_rules.specs.Writing.{messageOf, noDigest}
+use Rattle.message_rules.proofs.HoldsLaws.{never}
+use Rattle.key_association.specs.declared.listing.Listing.{Listing}
+use Rattle.key_association.specs.declared.record.Assoc.{Assoc}
+use Rattle.key_association.specs.declared.search.Found.{Found}
+use Rattle.key_association.specs.Record.{recordFits}
+use Rattle.key_association.proofs.RecordLaws.{InLimits, limits-of}
 use Rattle.headend_state.specs.declared.state.AuthKeys.{AuthKeys}
 use Rattle.headend_state.specs.declared.state.HeadEnd.{HeadEnd}
 use Rattle.headend_state.specs.declared.entries.Known.{Known}
@@ -30,7 +30,7 @@ use Rattle.headend_state.specs.Authorization.{newestNumber, keepIf, activeOf, h
 use Rattle.headend_state.specs.Entries.{lists, listsSuite, knownOf}
 use Rattle.headend_limits.specs.Limits.{headFits}
 use Rattle.headend_limits.specs.Search.{halfIn}
-use Rattle.answer_fields.specs.AnswerFields.{reject, invalid, keyReject, replyAnswer, keyReply}
+use Rattle.headend_answers.specs.AnswerFields.{reject, invalid, keyReject, replyAnswer, keyReply}
 use Rattle.headend_answers.specs.Answers.{keyAnswer, keysAfter, requestAnswer, requestReaction, reactionOf, ReactionFits}
 use Rattle.headend_steps.specs.Receive.{recordSuits, receiveAnswer, reactionTo, Writable}
 use Rattle.headend_limits.proofs.ListingLaws.{ListingIn}
@@ -127,7 +127,7 @@ writable-by : (f : Fields) (key : List ℕ) (lent : ℕ) → fieldsFit f ≡ tru
 writable-by f key lent e k most room = record { fields = λ q. e; auth-key = k; short = λ q. omega arith }
 
 none-writable : (key : List ℕ) (lent : ℕ) → Writable noFields key lent
-unfolding authKeyFits needs neededOf among
+unfolding authKeyFits isRequired requiredOf among
 none-writable key lent = record { fields = λ q. no-code q; auth-key = refl; short = λ q. no-code q }
   where
     no-code : {A : Type 0} → true ≡ false → A
@@ -135,21 +135,21 @@ none-writable key lent = record { fields = λ q. no-code q; auth-key = refl; sho
 
 module _ (key : List ℕ) (lent : ℕ) (room : 342 ≤ lent) where
   reject-writable : (i e : ℕ) → Writable (reject i e) key lent
-  unfolding authKeyFits needs neededOf among
+  unfolding authKeyFits isRequired requiredOf among
   reject-writable i e = writable-by (reject i e) key lent (reject-fits i e) refl (omega (arith, reject-length i e key)) room
 
   invalid-writable : (i e : ℕ) → Writable (invalid i e) key lent
-  unfolding authKeyFits needs neededOf among
+  unfolding authKeyFits isRequired requiredOf among
   invalid-writable i e = writable-by (invalid i e) key lent (invalid-fits i e) refl (omega (arith, invalid-length i e key)) room
 
   key-reject-writable : (f : Fields) (e : ℕ) → f .ak .0 ≤ 15 → f .said ≤ 16383 → Writable (keyReject f e) key lent
-  unfolding authKeyFits needs neededOf among
+  unfolding authKeyFits isRequired requiredOf among
   key-reject-writable f e low small =
       writable-by (keyReject f e) key lent (key-reject-fits f e low small) refl (omega (arith, key-reject-length f e key)) room
 
   reply-writable : (clock i : ℕ) (l : Listing) (k : AuthKeys) → 1 ≤ length key → length key ≤ 256 → ListingIn l
       → 1 ≤ lifeLeft clock (k .newer) → lifeLeft clock (k .newer) ≤ 12096000 → Writable (replyAnswer clock i l k) key lent
-  unfolding authKeyFits needs neededOf among
+  unfolding authKeyFits isRequired requiredOf among
   reply-writable clock i l k few many p low high =
       writable-by (replyAnswer clock i l k) key lent (reply-fits clock i l k p low high)
       (rw (le-leb 1 (length key) few, le-leb (length key) 256 many))
@@ -157,7 +157,7 @@ module _ (key : List ℕ) (lent : ℕ) (room : 342 ≤ lent) where
 
   key-reply-writable : (half clock : ℕ) (a : Assoc) (f : Fields) → InLimits half clock a → 1 ≤ half → lifeLeft clock (a .newer .deadline) ≤ 604800
       → f .ak .0 ≤ 15 → f .said ≤ 16383 → Writable (keyReply clock a f) key lent
-  unfolding authKeyFits needs neededOf among
+  unfolding authKeyFits isRequired requiredOf among
   key-reply-writable half clock a f i some most low small =
       writable-by (keyReply clock a f) key lent (key-reply-fits half clock a i some most f low small) refl (omega (arith, key-reply-most clock a f key)) room
 

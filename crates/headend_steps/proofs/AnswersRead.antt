@@ -8,29 +8,29 @@ use lib.Dec.{eqb}
 use lib.ListN.{length}
 use borrow.Author.Tests.{ne-eqb}
 use Rattle.questions.specs.declared.refusal.Answer.the-variants.{Done}
-use Rattle.wire.specs.declared.fields.Fields.{Fields}
-use Rattle.wire.specs.declared.fields.Reading.{Reading}
-use Rattle.wire.specs.declared.fields.Receiver.the-variants.{Modem}
-use Rattle.wire.specs.Ranges.{neededOf, among, needs}
-use Rattle.wire.specs.Messages.{receives, receiverOf}
-use Rattle.wire.specs.Fields.{noFields}
-use Rattle.wire.specs.Reading.{readOf}
-use Rattle.wire.specs.Limits.{fieldsFit, authKeyFits}
-use Rattle.wire.specs.Writing.{noDigest}
-use Rattle.wire.proofs.HoldsLaws.{never}
-use Rattle.wire.proofs.CodesLaws.{by-code}
-use Rattle.wire.proofs.FieldsFit.{Shaped, fit}
-use Rattle.wire.proofs.WrittenRead.{keyPlace, digestPlace, written-read}
-use Rattle.association.specs.declared.listing.Listing.{Listing}
-use Rattle.association.specs.declared.record.Assoc.{Assoc}
-use Rattle.association.specs.declared.search.Found.{Found}
-use Rattle.association.proofs.RecordLaws.{InLimits}
+use Rattle.message_rules.specs.declared.fields.Fields.{Fields}
+use Rattle.message_rules.specs.declared.fields.Reading.{Reading}
+use Rattle.message_rules.specs.declared.fields.Receiver.the-variants.{Modem}
+use Rattle.message_rules.specs.Ranges.{requiredOf, among, isRequired}
+use Rattle.message_rules.specs.Messages.{receives, receiverOf}
+use Rattle.message_rules.specs.Fields.{noFields}
+use Rattle.message_rules.specs.Reading.{readOf}
+use Rattle.message_rules.specs.Limits.{fieldsFit, authKeyFits}
+use Rattle.message_rules.specs.Writing.{noDigest}
+use Rattle.message_rules.proofs.HoldsLaws.{never}
+use Rattle.message_rules.proofs.CodesLaws.{by-code}
+use Rattle.message_rules.proofs.FieldsFit.{Shaped, fit}
+use Rattle.message_rules.proofs.WrittenRead.{keyPlace, digestPlace, written-read}
+use Rattle.key_association.specs.declared.listing.Listing.{Listing}
+use Rattle.key_association.specs.declared.record.Assoc.{Assoc}
+use Rattle.key_association.specs.declared.search.Found.{Found}
+use Rattle.key_association.proofs.RecordLaws.{InLimits}
 use Rattle.headend_state.specs.Authorization.{lifeLeft}
 use Rattle.headend_state.specs.declared.state.AuthKeys.{AuthKeys}
 use Rattle.headend_state.specs.declared.state.HeadEnd.{HeadEnd}
 use Rattle.headend_state.specs.declared.entries.Known.{Known}
 use Rattle.headend_state.specs.Entries.{knownOf}
-use Rattle.answer_fields.specs.AnswerFields.{errorAnswer, reject, invalid, keyReject, replyAnswer, keyReply}
+use Rattle.headend_answers.specs.AnswerFields.{errorAnswer, reject, invalid, keyReject, replyAnswer, keyReply}
 use Rattle.headend_answers.specs.Answers.{keyAnswer, keysAfter, requestAnswer, requestReaction, reactionOf}
 use Rattle.headend_steps.specs.Receive.{answerOctets, receiveAnswer, reactionTo, receiveCalled, receiveWritten}
 use Rattle.headend_steps.proofs.AnswerFields.{key-reply-fits}
@@ -86,7 +86,7 @@ module _ (key padding : List ℕ) where
   pub key-reply-read : (half clock : ℕ) (a : Assoc) (f : Fields) → ShapedRecord a → InLimits half clock a → 1 ≤ half → lifeLeft clock (a .newer .deadline) ≤ 604800
       → f .ak .0 ≤ 15 → f .said ≤ 16383
       → readOf Modem (answerOctets (keyReply clock a f) key ++ padding) ≡ readBack (keyReply clock a f) key
-  unfolding receives authKeyFits needs neededOf among
+  unfolding receives authKeyFits isRequired requiredOf among
   key-reply-read half clock a f n i some short low small =
       answer-read (keyReply clock a f) key padding (key-reply-shaped clock a f n) refl (key-reply-fits half clock a i some short f low small) refl
 

@@ -14,10 +14,10 @@ use Rattle.questions.specs.declared.refusal.Refusal.the-variants.{OutOfLimits, 
 use Rattle.questions.specs.Questions.{Question, firstNo, answerThen}
 use Rattle.questions.specs.Refusal.{isDone}
 use Rattle.questions.proofs.TestLaws.{both, either}
-use Rattle.association.specs.declared.listing.Listing.{Listing}
-use Rattle.association.specs.declared.search.Found.{Found}
-use Rattle.keys.specs.Addresses.{saidFits, addressFits}
-use Rattle.wire.specs.declared.fields.Reading.{Reading}
+use Rattle.key_association.specs.declared.listing.Listing.{Listing}
+use Rattle.key_association.specs.declared.search.Found.{Found}
+use Rattle.key_traffic.specs.Addresses.{saidFits, addressFits}
+use Rattle.message_rules.specs.declared.fields.Reading.{Reading}
 use Rattle.questions.proofs.AnswerLaws.{done-met, is-done}
 use Rattle.headend_state.specs.declared.state.HeadEnd.{HeadEnd}
 use Rattle.headend_answers.specs.declared.answers.Reaction.{Reaction}

@@ -6,10 +6,10 @@ use Prim.Native.Nat.{ℕ}
 use lib.Dec.{eqb}
 use lib.ListN.{length}
 use borrow.Author.Tests.{le-leb}
-use Rattle.keys.specs.Octets.{overlay}
-use Rattle.wire.specs.declared.fields.Fields.{Fields}
-use Rattle.wire.specs.declared.fields.Writing.{Writing}
-use Rattle.wire.specs.Writing.{messageOf, noDigest, writeQuestions, writtenOf, writeOf}
+use Rattle.key_traffic.specs.Octets.{overlay}
+use Rattle.message_rules.specs.declared.fields.Fields.{Fields}
+use Rattle.message_rules.specs.declared.fields.Writing.{Writing}
+use Rattle.message_rules.specs.Writing.{messageOf, noDigest, writeQuestions, writtenOf, writeOf}
 use Rattle.headend_steps.specs.Receive.{answerOctets, Writable}
 
 module _ (f : Fields) (key lent : List ℕ) where

@@ -8,13 +8,13 @@ use Rattle.questions.specs.declared.refusal.Answer.{Answer}
 use Rattle.questions.specs.declared.refusal.Answer.the-variants.{Done, Refused}
 use Rattle.questions.specs.declared.refusal.Refusal.the-variants.{OutOfLimits, WrongLength, NoFreePlace, NotNew}
 use Rattle.questions.specs.Questions.{Question, firstNo}
-use Rattle.association.specs.declared.listing.Listing.{Listing}
+use Rattle.key_association.specs.declared.listing.Listing.{Listing}
 use Rattle.headend_state.specs.declared.state.HeadEnd.{HeadEnd}
 use Rattle.headend_state.specs.declared.state.Called.{Called}
 use Rattle.headend_state.specs.State.{noKeys, withEntries, answeredCall}
 use Rattle.headend_state.specs.Entries.{entriesOf}
 use Rattle.headend_limits.specs.Search.{recordsFit}
-use Rattle.keys.specs.Addresses.{addressFits}
+use Rattle.key_traffic.specs.Addresses.{addressFits}
 use Rattle.headend_limits.specs.Limits.{listingFits, saidsDiffer, allApart, headFits}
 
 -- With `bad` the place of the first record out of its limits, `clash` that of the first record with one of the SAIDs, `len` records and

@@ -9,12 +9,12 @@ use Rattle.questions.specs.declared.refusal.Answer.{Answer}
 use Rattle.questions.specs.declared.refusal.Answer.the-variants.{Done, Refused}
 use Rattle.questions.specs.declared.refusal.Refusal.the-variants.{OutOfLimits, WrongLength, WrongIdentifier}
 use Rattle.questions.specs.Questions.{firstThen}
-use Rattle.association.specs.declared.search.Found.{Found}
-use Rattle.keys.specs.Addresses.{saidFits, addressFits}
-use Rattle.wire.specs.declared.fields.Fields.{Fields}
-use Rattle.wire.specs.declared.fields.Reading.{Reading}
-use Rattle.wire.specs.Limits.{fieldsFit, authKeyFits}
-use Rattle.wire.specs.Writing.{messageOf, noDigest}
+use Rattle.key_association.specs.declared.search.Found.{Found}
+use Rattle.key_traffic.specs.Addresses.{saidFits, addressFits}
+use Rattle.message_rules.specs.declared.fields.Fields.{Fields}
+use Rattle.message_rules.specs.declared.fields.Reading.{Reading}
+use Rattle.message_rules.specs.Limits.{fieldsFit, authKeyFits}
+use Rattle.message_rules.specs.Writing.{messageOf, noDigest}
 use Rattle.headend_state.specs.declared.state.HeadEnd.{HeadEnd}
 use Rattle.headend_state.specs.declared.state.Called.{Called}
 use Rattle.headend_state.specs.declared.entries.Known.{Known}

@@ -8,6 +8,7 @@ use headend_limits::search::records_fit;
 use headend_state::state::Called;
 use headend_state::state::HeadEnd;
 use headend_state::state::answered;
+use questions::limits::CLOCK_MAX;
 use questions::refusal::Answer;
 use questions::refusal::Refusal;
 use questions::refusal::ask;
@@ -20,7 +21,7 @@ fn clock_answer(h: HeadEnd, t: u64, bad: usize, len: usize, octets: usize) -> An
     let used = h.used;
     let q1 = head_fits(h) & records_fit(h, bad, len);
     let q2 = (used <= len) & is_material(octets, used);
-    let q3 = (h.clock <= t) & (t <= 1000000000000);
+    let q3 = (h.clock <= t) & (t <= CLOCK_MAX);
     let a3 = ask(q3, Refusal::ClockOutOfOrder, Answer::Done);
     let a2 = ask(q2, Refusal::WrongLength, a3);
     ask(q1, Refusal::OutOfLimits, a2)
@@ -34,6 +35,7 @@ fn with_clock(h: HeadEnd, t: u64) -> HeadEnd
     next
 }
 
+// The call: the head-end with its clock at `t`, where nothing is refused.
 pub fn clock_called(h: HeadEnd, t: u64, bad: usize, len: usize, octets: usize) -> Called
     ensures { λ r. ⌜ r ≡ clockCalled h t bad len octets ⌝ }
 {

@@ -3,19 +3,24 @@ ghost use mathlib.Core.Path.{_≡_};
 ghost use Prim.Native.Nat.{_+_, _*_, _<_, _≤_};
 ghost use lib.Dec.{leb, eqb};
 ghost use Rattle.headend_steps.specs.Listing.{listAnswer, grown, listCalled};
-use association::listing::Listing;
 use headend_limits::limits::address_fits;
 use headend_limits::limits::all_apart;
 use headend_limits::limits::head_fits;
 use headend_limits::limits::listing_fits;
 use headend_limits::limits::saids_differ;
 use headend_limits::search::records_fit;
+use headend_state::state::ALLOWED;
 use headend_state::state::AuthKeys;
 use headend_state::state::Called;
 use headend_state::state::Entry;
 use headend_state::state::HeadEnd;
+use headend_state::state::NO_DEADLINE;
 use headend_state::state::answered;
-use key_numbers::numbers::AkNumber;
+use key_association::listing::Listing;
+use key_traffic::numbers::AkNumber;
+use key_traffic::traffic::SAID_MATERIAL;
+use questions::limits::MODEMS_MAX;
+use questions::limits::RECORDS_MAX;
 use questions::refusal::Answer;
 use questions::refusal::Refusal;
 use questions::refusal::ask;
@@ -35,7 +40,7 @@ fn has_room(used: usize, count: usize, limit: usize) -> bool
 pub fn is_material(octets: usize, count: usize) -> bool
     ensures { λ r. ⌜ r ≡ eqb octets (count * 64) ⌝ }
 {
-    (octets % 64 == 0) & (octets / 64 == count)
+    (octets % SAID_MATERIAL == 0) & (octets / SAID_MATERIAL == count)
 }
 
 // Questions 1, 2, 4 and 5 of a listing. `bad` is the place of the first record out of its limits, `clash` of the first that has one of
@@ -58,10 +63,12 @@ fn list_answer(
     let q1 = head_fits(h)
         & records_fit(h, bad, len)
         & address_fits(address)
-        & (allowed <= 1)
+        & (allowed <= ALLOWED)
         & listing_fits(l);
     let q2 = (used <= len) & is_material(octets, count);
-    let q4 = (h.modems < 16) & has_room(used, count, 64) & has_room(used, count, len);
+    let q4 = (h.modems < MODEMS_MAX)
+        & has_room(used, count, RECORDS_MAX)
+        & has_room(used, count, len);
     let q5 = all_apart(entries, h.modems, address, l) & (used <= clash) & saids_differ(l);
     let a5 = ask(q5, Refusal::NotNew, Answer::Done);
     let a4 = ask(q4, Refusal::NoFreePlace, a5);
@@ -77,8 +84,8 @@ fn grown(h: HeadEnd, address: u64, allowed: u8, l: Listing) -> HeadEnd
     let at = h.modems;
     let keys = AuthKeys {
         next: AkNumber(0),
-        older: 0,
-        newer: 0,
+        older: NO_DEADLINE,
+        newer: NO_DEADLINE,
     };
     let e = Entry {
         address: address,
@@ -93,6 +100,7 @@ fn grown(h: HeadEnd, address: u64, allowed: u8, l: Listing) -> HeadEnd
     next
 }
 
+// The call: the head-end with the modem listed, where nothing is refused.
 pub fn list_called(
     h: HeadEnd,
     address: u64,

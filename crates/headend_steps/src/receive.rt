@@ -1,12 +1,10 @@
 // A message from a modem: what is asked, and the answer written.
 ghost use mathlib.Core.Path.{_≡_};
 ghost use lib.ListN.{length};
-ghost use Rattle.keys.specs.Octets.{overlay};
-ghost use Rattle.wire.specs.declared.fields.Receiver.the-variants.{HeadEnd as AtHeadEnd};
-ghost use Rattle.wire.specs.Reading.{readOf};
+ghost use Rattle.key_traffic.specs.Octets.{overlay};
+ghost use Rattle.message_rules.specs.declared.fields.Receiver.the-variants.{HeadEnd as AtHeadEnd};
+ghost use Rattle.message_rules.specs.Reading.{readOf};
 ghost use Rattle.headend_steps.specs.Receive.{recordSuits, identifierFits, receiveAnswer, answerOctets, Writable, receiveCalled, receiveWritten};
-use association::record::said_fits;
-use association::search::Found;
 use headend_answers::answers::key_answer;
 use headend_answers::answers::react;
 use headend_limits::limits::address_fits;
@@ -18,16 +16,27 @@ use headend_state::entries::entry_of;
 use headend_state::state::Called;
 use headend_state::state::HeadEnd;
 use headend_state::state::answered;
+use key_association::record::said_fits;
+use key_association::search::Found;
+use message_reader::read::read;
+use message_rules::codes::ANSWER_OCTETS;
+use message_rules::codes::AUTH_KEY_OCTETS_MAX;
+use message_rules::codes::AUTH_KEY_OCTETS_MIN;
+use message_rules::codes::CODE_AUTHENTICATION_INFORMATION;
+use message_rules::codes::CODE_KEY_REPLY;
+use message_rules::codes::CODE_KEY_REQUEST;
+use message_rules::codes::CODE_NONE;
+use message_rules::codes::UNSOLICITED;
+use message_rules::fields::Fields;
+use message_rules::fields::Reading;
+use message_rules::fields::Receiver;
+use message_writer::write::write;
+use questions::limits::TEK_LIFE_MAX;
 use questions::refusal::Answer;
 use questions::refusal::Refusal;
 use questions::refusal::and_then;
 use questions::refusal::ask;
 use questions::refusal::is_done;
-use reader::read::read;
-use wire::fields::Fields;
-use wire::fields::Reading;
-use wire::fields::Receiver;
-use writer::write::write;
 
 // Questions 6 to 9 at the head-end, and the fields.
 pub fn read_request(message: &[u8]) -> Reading
@@ -43,15 +52,15 @@ fn record_suits(h: HeadEnd, len: usize, s: Found, k: Known, digest: bool, f: Fie
     let a = s.held;
     let answer = key_answer(h.clock, k, a, digest, f);
     let newer = answer.newer;
-    !((f.code == 7) & (answer.code == 8))
-        | (found_suits(h, len, s, k, f.said) & (newer.life <= 604800))
+    !((f.code == CODE_KEY_REQUEST) & (answer.code == CODE_KEY_REPLY))
+        | (found_suits(h, len, s, k, f.said) & (newer.life <= TEK_LIFE_MAX))
 }
 
 // Question 11: Authentication Information has Identifier 0.
 fn identifier_fits(f: Fields) -> bool
     ensures { λ r. ⌜ r ≡ identifierFits f ⌝ }
 {
-    !(f.code == 12) | (f.identifier == 0)
+    !(f.code == CODE_AUTHENTICATION_INFORMATION) | (f.identifier == UNSOLICITED)
 }
 
 // All questions of the call. `bad` is the place of the first record out of its limits, `len` the number of records lent, `s` what was
@@ -76,7 +85,10 @@ fn receive_answer(
         & address_fits(address)
         & said_fits(f.said)
         & record_suits(h, len, s, k, digest, f);
-    let q2 = (342 <= lent) & (1 <= key) & (key <= 256) & (h.used <= len);
+    let q2 = (ANSWER_OCTETS <= lent)
+        & (AUTH_KEY_OCTETS_MIN <= key)
+        & (key <= AUTH_KEY_OCTETS_MAX)
+        & (h.used <= len);
     let a2 = ask(q2, Refusal::WrongLength, Answer::Done);
     let first = ask(q1, Refusal::OutOfLimits, a2);
     let read = r.answer;
@@ -89,7 +101,7 @@ pub fn put_answer(f: Fields, key: &[u8], out: &mut [u8]) -> usize
     requires { ⌜ Writable f (now key) (length (now out)) ⌝ }
     ensures { λ n. ⌜ (n ≡ length (answerOctets f (now (key .entry)))) × (now (out .exit) ≡ overlay (now (out .entry)) (answerOctets f (now (key .entry)))) ⌝ }
 {
-    if f.code == 0 {
+    if f.code == CODE_NONE {
         return 0;
     }
     let w = write(f, key, out);

@@ -7,36 +7,36 @@ use native.Mathlib.Omega.{arith}
 use lib.Dec.{leb, ltb, eqb}
 use lib.ListN.{length, take}
 use borrow.Author.Tests.{ltb-true, leb-true, eq-eqb, ne-eqb}
-use Rattle.key_numbers.specs.declared.numbers.TekNumber.{TekNumber}
-use Rattle.keys.specs.declared.frame.Opening.{Opening}
+use Rattle.key_traffic.specs.declared.numbers.TekNumber.{TekNumber}
+use Rattle.key_traffic.specs.declared.frame.Opening.{Opening}
 use Rattle.questions.specs.declared.refusal.Answer.{Answer}
 use Rattle.questions.specs.declared.refusal.Answer.the-variants.{Done, Refused}
 use Rattle.questions.specs.declared.refusal.Refusal.{Refusal}
 use Rattle.questions.specs.declared.refusal.Refusal.the-variants.{OutOfLimits, WrongLength, UnknownSaid, NoKeyForFrame, NoKeyToSeal}
-use Rattle.key_numbers.specs.Numbers.{tekInRange}
-use Rattle.keys.specs.Octets.{overlay}
+use Rattle.key_traffic.specs.Numbers.{tekInRange}
+use Rattle.key_traffic.specs.Octets.{overlay}
 use Rattle.questions.specs.Refusal.{answerNumber, isDone}
-use Rattle.keys.specs.Suites.{widthOf}
-use Rattle.keys.specs.Sealing.{Sealed, sealedFor, openedBy, sealCalled}
+use Rattle.key_traffic.specs.Suites.{widthOf}
+use Rattle.key_traffic.specs.Sealing.{Sealed, sealedFor, openedBy, sealCalled, SealGives}
 use Rattle.questions.proofs.TestLaws.{both}
 use Rattle.questions.proofs.AnswerLaws.{is-done, number-done}
-use Rattle.wire.specs.Fields.{noParams}
-use Rattle.tek_machine.specs.declared.tek.Tek.{Tek}
+use Rattle.message_rules.specs.Fields.{noParams}
+use Rattle.modem_tek.specs.declared.tek.Tek.{Tek}
 use Rattle.modem_steps.specs.declared.state.Modem.{Modem}
-use Rattle.modem_steps.specs.declared.state.Work.{Work}
+use Rattle.modem_steps.specs.declared.state.Progress.{Progress}
 use Rattle.modem_steps.specs.State.{starting}
-use Rattle.modem_steps.specs.Slots.{slotOfSaid, told}
+use Rattle.modem_steps.specs.Slots.{slotOfSaid, deliver}
 use Rattle.modem_receive.specs.Receive.{isKnown}
-use Rattle.keys.specs.declared.sealing.SealedCall.{SealedCall}
-use Rattle.modem_frame_rules.specs.declared.rules.OpenedCall.{OpenedCall}
+use Rattle.key_traffic.specs.declared.sealing.SealedCall.{SealedCall}
+use Rattle.modem_frames.specs.declared.rules.OpenedCall.{OpenedCall}
 use Rattle.modem_limits.specs.Limits.{modemFits}
-use Rattle.modem.specs.Messages.{outOctets, OutFits}
-use Rattle.modem_frame_rules.specs.FrameRules.{pairOpening, countedBy}
+use Rattle.modem_calls.specs.Messages.{outOctets, OutFits}
+use Rattle.modem_frames.specs.FrameRules.{pairOpening, countedBy}
 use Rattle.modem_frames.specs.Frames.{machineOf, canSeal, sealAnswer, sealOf, canOpen, openAnswer, ModemOpened, missed, openedFor, openOf, machineOut, sealAsked, openAsked}
-use Rattle.modem_frames.specs.FrameCalled.{openedCall, openCalled, knownMachine}
-use Rattle.modem.proofs.OutLaws.{out-wider}
-use Rattle.modem.proofs.SentLaws.{sends-none, told-sends}
-use Rattle.modem.proofs.SentFits.{fits-sayable}
+use Rattle.modem_frames.specs.FrameCalled.{openedCall, openCalled, knownMachine, OpenGives}
+use Rattle.modem_calls.proofs.OutLaws.{out-wider}
+use Rattle.modem_calls.proofs.SentLaws.{sends-none, deliver-sends}
+use Rattle.modem_calls.proofs.SentFits.{fits-sayable}
 use Rattle.modem_frames.proofs.FrameLaws.{frameIn, slicesLong, isHere}
 use Rattle.modem_frames.proofs.MachineLaws.{machine-known, seal-asked, open-asked}
 
@@ -77,12 +77,12 @@ sealedBy a t = sealedFor a (widthOf (t .suite)) (t .pair .newer)
 module _ (m : Modem) (said : ℕ) (tek vector : List ℕ) where
   -- what the call hands back, and what the two slices hold after it
   abbrev SealMeets : Sealed → SealedCall → List ℕ → List ℕ → Type 0
-  SealMeets s c tek₁ vector₁ = (c ≡ sealCalled s) × ((tek₁ ≡ overlay tek (s .out .tek)) × (vector₁ ≡ overlay vector (s .out .vector)))
+  SealMeets s c tek₁ vector₁ = SealGives s tek vector c tek₁ vector₁
 
   no-seal : (a : Answer) (t : Tek) → isDone a ≡ false
       → SealMeets (sealedBy a t) (record { answer = a; number = record { 0 = 0 }; width = 0 }) tek vector
   no-seal Done t e = let z : _≡_ {A = ℕ} 0 1 = cc in absurd (omega arith)
-  no-seal (Refused r) t e = (refl, (refl, refl))
+  no-seal (Refused r) t e = (refl, refl, refl)
 
   module _ (t : Tek) (a : Answer) (et : t ≡ knownMachine m said) (ea : a ≡ sealAsked m said t (length tek) (length vector)) where
     seal-answer : a ≡ sealAnswer m said (length tek) (length vector)
@@ -121,32 +121,30 @@ module _ (m : Modem) (said : ℕ) (tek vector : List ℕ) where
           let wide : n ≡ length (take (widthOf (t .suite)) (k .tek)) = en ∙ ap (λ (x : ℕ). length (take x (k .tek))) ew in (
             ap (λ (b : Answer). record { answer = b; number = k .number; width = n }) (is-done a e)
                 ∙ ap (λ (x : ℕ). record { answer = Done; number = k .number; width = x }) wide ∙ ap sealCalled seal-same,
-            (
-              e₁ ∙ ap (λ (x : ℕ). overlay tek (take x (k .tek))) ew ∙ ap (λ (s : Sealed). overlay tek (s .out .tek)) seal-same,
-              e₂ ∙ ap (λ (x : ℕ). overlay vector (take x (k .vector))) ew ∙ ap (λ (s : Sealed). overlay vector (s .out .vector)) seal-same,
-            ),
+            e₁ ∙ ap (λ (x : ℕ). overlay tek (take x (k .tek))) ew ∙ ap (λ (s : Sealed). overlay tek (s .out .tek)) seal-same,
+            e₂ ∙ ap (λ (x : ℕ). overlay vector (take x (k .vector))) ew ∙ ap (λ (s : Sealed). overlay vector (s .out .vector)) seal-same,
           )
 
 -- ---- opening: event 5 at the SAID's slot
 module _ (m : Modem) (said : ℕ) where
-  pub told-slot : (v r : Work) (i : ℕ) → v ≡ starting m → i ≡ slotOfSaid m said → r ≡ told v i 5 → r ≡ told (starting m) (slotOfSaid m said) 5
-  told-slot v r i ev ei e = e ∙ ap (λ (x : Work). told x i 5) ev ∙ ap (λ (k : ℕ). told (starting m) k 5) ei
+  pub deliver-slot : (v r : Progress) (i : ℕ) → v ≡ starting m → i ≡ slotOfSaid m said → r ≡ deliver v i 5 → r ≡ deliver (starting m) (slotOfSaid m said) 5
+  deliver-slot v r i ev ei e = e ∙ ap (λ (x : Progress). deliver x i 5) ev ∙ ap (λ (k : ℕ). deliver (starting m) k 5) ei
 
-  pub told-out : modemFits m ≡ true → isKnown m said ≡ true → OutFits (told (starting m) (slotOfSaid m said) 5 .out) 6
-  told-out fits known =
-      out-wider (told (starting m) (slotOfSaid m said) 5 .out) 1 6 (omega arith)
-      (told-sends (starting m) (slotOfSaid m said) 5 noParams noParams 0 (ltb-true (slotOfSaid m said) 4 known) (omega arith)
+  pub deliver-out : modemFits m ≡ true → isKnown m said ≡ true → OutFits (deliver (starting m) (slotOfSaid m said) 5 .out) 6
+  deliver-out fits known =
+      out-wider (deliver (starting m) (slotOfSaid m said) 5 .out) 1 6 (omega arith)
+      (deliver-sends (starting m) (slotOfSaid m said) 5 noParams noParams 0 (ltb-true (slotOfSaid m said) 4 known) (omega arith)
       (sends-none m (fits-sayable m fits)) .out)
 
-  pub missing-done : (a : Answer) (out : List ℕ) (r : Work) (next : Modem) (n : ℕ) (c : OpenedCall) (out₁ : List ℕ)
-      → r ≡ told (starting m) (slotOfSaid m said) 5 → next ≡ countedBy 13 (r .modem) → n ≡ length (outOctets (r .out)) → c ≡ openedCall a next 0 n
+  pub missing-done : (a : Answer) (out : List ℕ) (r : Progress) (next : Modem) (n : ℕ) (c : OpenedCall) (out₁ : List ℕ)
+      → r ≡ deliver (starting m) (slotOfSaid m said) 5 → next ≡ countedBy 13 (r .modem) → n ≡ length (outOctets (r .out)) → c ≡ openedCall a next 0 n
       → out₁ ≡ overlay out (outOctets (r .out))
       → (c ≡ openCalled (missed true a m said)) × (out₁ ≡ overlay out (missed true a m said .sent))
   missing-done a out r next n c out₁ er em en ec eo = (
-    ec ∙ ap (λ (x : Modem). openedCall a x 0 n) (em ∙ ap (λ (x : Work). countedBy 13 (x .modem)) er)
-        ∙ ap (λ (x : ℕ). openedCall a (countedBy 13 (told (starting m) (slotOfSaid m said) 5 .modem)) 0 x)
-        (en ∙ ap (λ (x : Work). length (outOctets (x .out))) er),
-    eo ∙ ap (λ (x : Work). overlay out (outOctets (x .out))) er,
+    ec ∙ ap (λ (x : Modem). openedCall a x 0 n) (em ∙ ap (λ (x : Progress). countedBy 13 (x .modem)) er)
+        ∙ ap (λ (x : ℕ). openedCall a (countedBy 13 (deliver (starting m) (slotOfSaid m said) 5 .modem)) 0 x)
+        (en ∙ ap (λ (x : Progress). length (outOctets (x .out))) er),
+    eo ∙ ap (λ (x : Progress). overlay out (outOctets (x .out))) er,
   )
 
   opened-13 : (number : TekNumber) (a : Answer) → answerNumber a ≡ 13 → missed true a m said ≡ openedFor a m said number
@@ -173,8 +171,7 @@ openedWith m number t = record { answer = Done; modem = countedBy 0 m; out = mac
 
 module _ (m : Modem) (direction address said : ℕ) (number : TekNumber) (tek vector out : List ℕ) where
   abbrev OpenMeets : ModemOpened → OpenedCall → List ℕ → List ℕ → List ℕ → Type 0
-  OpenMeets o c tek₁ vector₁ out₁ =
-      (c ≡ openCalled o) × ((tek₁ ≡ overlay tek (o .out .tek)) × ((vector₁ ≡ overlay vector (o .out .vector)) × (out₁ ≡ overlay out (o .sent))))
+  OpenMeets o c tek₁ vector₁ out₁ = OpenGives o tek vector out c tek₁ vector₁ out₁
 
   abbrev opening : ModemOpened
   opening = openOf m direction address said number (length tek) (length vector) (length out)
@@ -207,14 +204,14 @@ module _ (m : Modem) (direction address said : ℕ) (number : TekNumber) (tek ve
       pub open-missed : (c : OpenedCall) (out₁ : List ℕ) → c ≡ openCalled (missed true a m said) → out₁ ≡ overlay out (missed true a m said .sent)
           → OpenMeets opening c tek vector out₁
       open-missed c out₁ ec eo =
-          subst (λ (o : ModemOpened). OpenMeets o c tek vector out₁) (opened-13 m said number a (sym en ∙ is) ∙ open-for) (ec, (refl, (refl, eo)))
+          subst (λ (o : ModemOpened). OpenMeets o c tek vector out₁) (opened-13 m said number a (sym en ∙ is) ∙ open-for) (ec, refl, refl, eo)
 
     -- any other refusal
     pub open-refused : (n ≡ 13 → ⊥) → (n ≡ 0 → ⊥) → (next : Modem) (c : OpenedCall) → next ≡ countedBy n m → c ≡ openedCall a next 0 0
         → OpenMeets opening c tek vector out
     open-refused not-13 not-0 next c ex ec =
         subst (λ (o : ModemOpened). OpenMeets o c tek vector out) (opened-other m said number a (λ e. not-13 (en ∙ e)) (λ e. not-0 (en ∙ e)) ∙ open-for)
-        (ec ∙ ap (λ (x : Modem). openedCall a x 0 0) (ex ∙ ap (λ (k : ℕ). countedBy k m) en), (refl, (refl, refl)))
+        (ec ∙ ap (λ (x : Modem). openedCall a x 0 0) (ex ∙ ap (λ (k : ℕ). countedBy k m) en), refl, refl, refl)
 
     -- opened
     module _ (is : n ≡ 0) where
@@ -244,5 +241,7 @@ module _ (m : Modem) (direction address said : ℕ) (number : TekNumber) (tek ve
             ec ∙ ap (λ (b : Answer). openedCall b next k 0) open-is
                 ∙ ap (λ (x : Modem). openedCall Done x k 0) (ex ∙ ap (λ (j : ℕ). countedBy j m) is)
                 ∙ ap (λ (x : ℕ). openedCall Done (countedBy 0 m) x 0) ek,
-            (e₁, (e₂, refl)),
+            e₁,
+            e₂,
+            refl,
           )

@@ -4,28 +4,28 @@ use mathlib.Core.Bool.{Bool, true, false, _&&_, _||_, cond}
 use mathlib.Core.List.{List}
 use Prim.Native.Nat.{ℕ}
 use lib.Dec.{leb, eqb}
-use Rattle.key_numbers.specs.declared.numbers.TekNumber.{TekNumber}
+use Rattle.key_traffic.specs.declared.numbers.TekNumber.{TekNumber}
 use Rattle.questions.specs.declared.refusal.Answer.{Answer}
 use Rattle.questions.specs.declared.refusal.Answer.the-variants.{Done, Refused}
 use Rattle.questions.specs.declared.refusal.Refusal.the-variants.{WrongLength, ClockOutOfOrder}
 use Rattle.questions.specs.Questions.{firstNo}
-use Rattle.keys.specs.Sealing.{oneMore}
+use Rattle.key_traffic.specs.Sealing.{oneMore}
 use Rattle.questions.proofs.TestLaws.{both}
-use Rattle.tek_parts.specs.declared.parts.Pair.{Pair}
+use Rattle.modem_tek.specs.declared.parts.Pair.{Pair}
 use Rattle.modem_steps.specs.declared.state.Modem.{Modem}
 use Rattle.modem_steps.specs.State.{starting}
-use Rattle.modem_steps.specs.Slots.{told, slotOfSaid}
+use Rattle.modem_steps.specs.Slots.{deliver, slotOfSaid}
 use Rattle.modem_receive.specs.Receive.{isKnown}
 use Rattle.modem_steps.specs.Clock.{clocked}
 use Rattle.modem_limits.specs.Limits.{slotFits, modemFits}
-use Rattle.modem.specs.Calls.{establishedOf, reauthOf, clockFits, clockOf, receiveOf}
-use Rattle.modem_frame_rules.specs.FrameRules.{withCounts, countedBy}
+use Rattle.modem_calls.specs.Calls.{establishedOf, reauthOf, clockFits, clockOf, receiveOf}
+use Rattle.modem_frames.specs.FrameRules.{withCounts, countedBy}
 use Rattle.modem_frames.specs.Frames.{openOf}
 use Rattle.modem_limits.proofs.LimitsLaws.{limits-of, fits-by}
-use Rattle.modem.proofs.KeptSteps.{plain-told-kept}
-use Rattle.modem.proofs.ModemRows.{answer-of}
-use Rattle.modem.proofs.CallLaws.{clockQuestions, established-good, reauth-good, clock-good, receive-good}
-use Rattle.modem.proofs.PairSteps.{AllPairs, SameRest, starting-carries, told-carries}
+use Rattle.modem_calls.proofs.KeptSteps.{plain-deliver-kept}
+use Rattle.modem_calls.proofs.ModemRows.{answer-of}
+use Rattle.modem_calls.proofs.CallLaws.{clockQuestions, established-good, reauth-good, clock-good, receive-good}
+use Rattle.modem_calls.proofs.PairSteps.{AllPairs, SameRest, starting-carries, deliver-carries}
 use Rattle.modem_frames.proofs.FrameLaws.{known-inside, open-by}
 
 -- ---- counting changes the counts alone
@@ -40,7 +40,7 @@ counted-by P n m same new = go (eqb n 0) (eqb n 10 || eqb n 13)
 
 -- the modem after event 5 at the SAID's slot
 abbrev missedAt : Modem → ℕ → Modem
-missedAt m said = told (starting m) (slotOfSaid m said) 5 .modem
+missedAt m said = deliver (starting m) (slotOfSaid m said) 5 .modem
 
 -- ---- settings, address, own SAID and clock are the same
 pub record SameButCounts (m n : Modem) : Type 0 where
@@ -66,7 +66,7 @@ Any said suite p = Unit {0}
 -- event 5 at a slot keeps the limits
 missed-fits : (m : Modem) (said : ℕ) → modemFits m ≡ true → isKnown m said ≡ true → modemFits (missedAt m said) ≡ true
 missed-fits m said e known =
-    fits-by (missedAt m said) (plain-told-kept (starting m) (slotOfSaid m said) 5 (known-inside m said known .1) refl refl (limits-of m e))
+    fits-by (missedAt m said) (plain-deliver-kept (starting m) (slotOfSaid m said) 5 (known-inside m said known .1) refl refl (limits-of m e))
 
 -- ---- after an opening, whatever its answer
 module _ (m : Modem) (direction address said : ℕ) (number : TekNumber) (tek vector lent : ℕ) where
@@ -76,13 +76,13 @@ module _ (m : Modem) (direction address said : ℕ) (number : TekNumber) (tek ve
       (λ e. counted-pairs Q 1 m p)
       (λ e. counted-pairs Q 2 m p)
       (λ e. counted-pairs Q 10 m p)
-      (λ i h e. counted-pairs Q 13 (missedAt m said) (told-carries Q m (starting m) (slotOfSaid m said) 5 refl (starting-carries Q m p) .pairs))
+      (λ i h e. counted-pairs Q 13 (missedAt m said) (deliver-carries Q m (starting m) (slotOfSaid m said) 5 refl (starting-carries Q m p) .pairs))
       (λ i h e. counted-pairs Q 0 m p)
 
   pub open-keeps : SameButCounts m (openOf m direction address said number tek vector lent .modem)
   open-keeps =
       let same : SameButCounts m m = record { settings = refl; address = refl; said = refl; clock = refl } in
-      let r : SameRest m (missedAt m said) = told-carries Any m (starting m) (slotOfSaid m said) 5 refl (starting-carries Any m (λ i h q. tt)) .rest in
+      let r : SameRest m (missedAt m said) = deliver-carries Any m (starting m) (slotOfSaid m said) 5 refl (starting-carries Any m (λ i h q. tt)) .rest in
       open-by m direction address said number tek vector lent (λ o. SameButCounts m (o .modem))
       (λ e. counted-same m m 1 same)
       (λ e. counted-same m m 2 same)

@@ -7,37 +7,37 @@ use Prim.Native.Nat.{ℕ, _≤_, _<_}
 use native.Mathlib.Omega.{arith}
 use lib.Dec.{leb, ltb, eqb}
 use borrow.Author.Tests.{ltb-true, leb-true, lt-ltb, le-leb, eqb-true}
-use Rattle.key_numbers.specs.declared.numbers.TekNumber.{TekNumber}
-use Rattle.keys.specs.declared.traffic.TrafficKey.{TrafficKey}
+use Rattle.key_traffic.specs.declared.numbers.TekNumber.{TekNumber}
+use Rattle.key_traffic.specs.declared.traffic.TrafficKey.{TrafficKey}
 use Rattle.questions.specs.declared.refusal.Answer.{Answer}
 use Rattle.questions.specs.declared.refusal.Answer.the-variants.{Done, Refused}
 use Rattle.questions.specs.declared.refusal.Refusal.{Refusal}
 use Rattle.questions.specs.declared.refusal.Refusal.the-variants.{OutOfLimits, WrongLength, UnknownSaid, NoKeyForFrame, NoKeyToSeal}
-use Rattle.key_numbers.specs.Numbers.{tekInRange}
-use Rattle.keys.specs.Octets.{zeroPast}
-use Rattle.keys.specs.Suites.{widthOf}
+use Rattle.key_traffic.specs.Numbers.{tekInRange}
+use Rattle.key_traffic.specs.Octets.{zeroPast}
+use Rattle.key_traffic.specs.Suites.{widthOf}
 use Rattle.questions.specs.Questions.{Question}
 use Rattle.questions.specs.Refusal.{answerNumber}
-use Rattle.keys.specs.Traffic.{keyFits, pairFits}
-use Rattle.keys.specs.declared.frame.Opening.{Opening}
-use Rattle.keys.specs.Frame.{openingKey, opens}
-use Rattle.keys.specs.Sealing.{keyOut, keyOutOf, sealedFor, oneMore}
-use Rattle.keys.proofs.FrameLaws.{opening-key}
+use Rattle.key_traffic.specs.Traffic.{keyFits, pairFits}
+use Rattle.key_traffic.specs.declared.frame.Opening.{Opening}
+use Rattle.key_traffic.specs.Frame.{openingKey, opens}
+use Rattle.key_traffic.specs.Sealing.{keyOut, keyOutOf, sealedFor, oneMore}
+use Rattle.key_traffic.proofs.FrameLaws.{opening-key}
 use Rattle.questions.proofs.TestLaws.{both}
 use Rattle.questions.proofs.AnswerLaws.{done-met}
-use Rattle.wire.proofs.HoldsLaws.{never}
-use Rattle.tek_parts.specs.declared.parts.Pair.{Pair}
-use Rattle.machines.specs.Transitions.{D}
+use Rattle.message_rules.proofs.HoldsLaws.{never}
+use Rattle.modem_tek.specs.declared.parts.Pair.{Pair}
+use Rattle.modem_transitions.specs.Transitions.{D}
 use Rattle.modem_steps.specs.declared.state.Modem.{Modem}
 use Rattle.modem_steps.specs.State.{slotAt}
-use Rattle.modem_steps.specs.Slots.{steppedAt, toldReply, slotOfSaid}
+use Rattle.modem_steps.specs.Slots.{steppedAt, deliverReply, slotOfSaid}
 use Rattle.modem_receive.specs.Receive.{isKnown}
 use Rattle.modem_limits.specs.Limits.{keyZero, pairHeldFits, modemFits}
-use Rattle.modem_frame_rules.specs.FrameRules.{countedBy}
-use Rattle.modem_frame_rules.proofs.RuleLaws.{opens-held}
+use Rattle.modem_frames.specs.FrameRules.{countedBy}
+use Rattle.modem_frames.proofs.RuleLaws.{opens-held}
 use Rattle.modem_frames.specs.Frames.{machineOf, sealAsked, openAsked, canSeal, sealAnswer, sealOf, canOpen, openAnswer, ModemOpened, openedFor, openOf}
 use Rattle.modem_limits.proofs.LimitsLaws.{limits-of, tek-in}
-use Rattle.modem.proofs.PairLaws.{first-found}
+use Rattle.modem_calls.proofs.PairLaws.{first-found}
 
 -- ---- a slot of a modem within its limits: the pair that it holds fits
 held-fits : (must : Bool) (w clock : ℕ) (p : Pair) → pairHeldFits must w clock p ≡ true → p .held ≡ 1 → pairFits w clock (p .older) (p .newer) ≡ true
@@ -229,7 +229,7 @@ pub record Counted (m : Modem) (o : ModemOpened) : Type 0 where
 
 pub opened-counts : (m : Modem) (direction address said : ℕ) (number : TekNumber) (tek vector lent : ℕ)
     → Counted m (openOf m direction address said number tek vector lent)
-unfolding countedBy toldReply steppedAt
+unfolding countedBy deliverReply steppedAt
 opened-counts m direction address said number tek vector lent =
     open-by m direction address said number tek vector lent (Counted m)
     (λ e. record { done = refused-not OutOfLimits; unknown = λ q. absurd (omega arith); no-key = λ q. absurd (omega arith); other = λ a b c. (refl, refl) })

@@ -1,3 +1,4 @@
+pub mod RuleLaws
 pub mod FrameLaws
 pub mod MachineLaws
 pub mod FrameCalledLaws

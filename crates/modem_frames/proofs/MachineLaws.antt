@@ -5,19 +5,19 @@ use Prim.Native.Nat.{ℕ, _≤_, _<_}
 use native.Mathlib.Omega.{arith}
 use lib.Dec.{leb, ltb, eqb}
 use borrow.Author.Tests.{lt-ltb, le-ltb}
-use Rattle.key_numbers.specs.declared.numbers.TekNumber.{TekNumber}
+use Rattle.key_traffic.specs.declared.numbers.TekNumber.{TekNumber}
 use Rattle.questions.specs.declared.refusal.Answer.{Answer}
 use Rattle.questions.specs.declared.refusal.Answer.the-variants.{Done, Refused}
 use Rattle.questions.specs.declared.refusal.Refusal.{Refusal}
 use Rattle.questions.specs.declared.refusal.Refusal.the-variants.{OutOfLimits, WrongLength, UnknownSaid, NoKeyForFrame, NoKeyToSeal}
-use Rattle.key_numbers.specs.Numbers.{tekInRange}
-use Rattle.tek_machine.specs.declared.tek.Tek.{Tek}
+use Rattle.key_traffic.specs.Numbers.{tekInRange}
+use Rattle.modem_tek.specs.declared.tek.Tek.{Tek}
 use Rattle.modem_steps.specs.declared.state.Modem.{Modem}
 use Rattle.modem_steps.specs.State.{noTek, slotAt}
 use Rattle.modem_steps.specs.Slots.{slotOfSaid}
 use Rattle.modem_receive.specs.Receive.{isKnown}
 use Rattle.modem_limits.specs.Limits.{modemFits}
-use Rattle.modem_frame_rules.specs.FrameRules.{pairSeals, pairOpens}
+use Rattle.modem_frames.specs.FrameRules.{pairSeals, pairOpens}
 use Rattle.modem_frames.specs.Frames.{machineOf, sealAnswer, openAnswer, sealAsked, openAsked}
 use Rattle.modem_frames.specs.FrameCalled.{knownMachine}
 

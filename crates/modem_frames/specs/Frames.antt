@@ -3,24 +3,24 @@ use mathlib.Core.Bool.{Bool, cond, _&&_}
 use mathlib.Core.List.{List, [], _∷_}
 use Prim.Native.Nat.{ℕ}
 use lib.Dec.{leb, eqb}
-use Rattle.keys.specs.Addresses.{saidFits, addressFits}
-use Rattle.key_numbers.specs.declared.numbers.TekNumber.{TekNumber}
+use Rattle.key_traffic.specs.Addresses.{saidFits, addressFits}
+use Rattle.key_traffic.specs.declared.numbers.TekNumber.{TekNumber}
 use Rattle.questions.specs.declared.refusal.Answer.{Answer}
 use Rattle.questions.specs.declared.refusal.Answer.the-variants.{Done, Refused}
 use Rattle.questions.specs.declared.refusal.Refusal.the-variants.{OutOfLimits, WrongLength, UnknownSaid, NoKeyForFrame, NoKeyToSeal}
-use Rattle.key_numbers.specs.Numbers.{tekInRange}
-use Rattle.keys.specs.Suites.{widthOf}
+use Rattle.key_traffic.specs.Numbers.{tekInRange}
+use Rattle.key_traffic.specs.Suites.{widthOf}
 use Rattle.questions.specs.Questions.{firstNo}
 use Rattle.questions.specs.Refusal.{answerNumber}
-use Rattle.keys.specs.Sealing.{KeyOut, noOut, Sealed, sealedFor, openedBy}
-use Rattle.tek_machine.specs.declared.tek.Tek.{Tek}
+use Rattle.key_traffic.specs.Sealing.{KeyOut, noOut, Sealed, sealedFor, openedBy}
+use Rattle.modem_tek.specs.declared.tek.Tek.{Tek}
 use Rattle.modem_steps.specs.declared.state.Modem.{Modem}
 use Rattle.modem_steps.specs.State.{slotAt, starting}
-use Rattle.modem_steps.specs.Slots.{slotOfSaid, told}
+use Rattle.modem_steps.specs.Slots.{slotOfSaid, deliver}
 use Rattle.modem_receive.specs.Receive.{isKnown}
 use Rattle.modem_limits.specs.Limits.{modemFits}
-use Rattle.modem.specs.Messages.{outOctets}
-use Rattle.modem_frame_rules.specs.FrameRules.{pairSeals, pairOpening, pairOpens, countedBy}
+use Rattle.modem_calls.specs.Messages.{outOctets}
+use Rattle.modem_frames.specs.FrameRules.{pairSeals, pairOpening, pairOpens, countedBy}
 
 -- The machine of a SAID
 abbrev pub machineOf : Modem → ℕ → Tek
@@ -83,9 +83,9 @@ missed is13 a m said =
     cond is13
     (record {
       answer = a;
-      modem = countedBy 13 (told (starting m) (slotOfSaid m said) 5 .modem);
+      modem = countedBy 13 (deliver (starting m) (slotOfSaid m said) 5 .modem);
       out = noOut;
-      sent = outOctets (told (starting m) (slotOfSaid m said) 5 .out);
+      sent = outOctets (deliver (starting m) (slotOfSaid m said) 5 .out);
     })
     (record { answer = a; modem = countedBy (answerNumber a) m; out = noOut; sent = [] })
 

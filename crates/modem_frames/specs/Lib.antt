@@ -1,2 +1,3 @@
+pub mod FrameRules
 pub mod Frames
 pub mod FrameCalled

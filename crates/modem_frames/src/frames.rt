@@ -3,42 +3,51 @@ ghost use mathlib.Core.Path.{_≡_};
 ghost use mathlib.Core.Bool.{true};
 ghost use Prim.Native.Nat.{_≤_};
 ghost use lib.ListN.{length};
-ghost use Rattle.keys.specs.Octets.{overlay};
-ghost use Rattle.keys.specs.Sealing.{sealCalled};
+ghost use Rattle.key_traffic.specs.Octets.{overlay};
+ghost use Rattle.key_traffic.specs.Sealing.{SealGives};
 ghost use Rattle.modem_receive.specs.Receive.{isKnown};
 ghost use Rattle.modem_limits.specs.Limits.{modemFits};
 ghost use Rattle.modem_frames.specs.Frames.{sealOf, missed, openOf, machineOut, sealAsked, openAsked};
-ghost use Rattle.modem_frames.specs.FrameCalled.{openedCall, openCalled, knownMachine};
-use key_numbers::numbers::TekNumber;
-use key_numbers::numbers::tek_in_range;
-use keys::sealing::SealedCall;
-use keys::sealing::put_key;
-use keys::sealing::put_opened;
-use keys::suites::width;
-use modem::messages::put_out;
-use modem_frame_rules::rules::OpenedCall;
-use modem_frame_rules::rules::can_open;
-use modem_frame_rules::rules::can_seal;
-use modem_frame_rules::rules::counted;
-use modem_frame_rules::rules::pair_opening;
+ghost use Rattle.modem_frames.specs.FrameCalled.{openedCall, openCalled, knownMachine, OpenGives};
+use crate::rules::OpenedCall;
+use crate::rules::can_open;
+use crate::rules::can_seal;
+use crate::rules::counted;
+use crate::rules::pair_opening;
+use key_traffic::frame::DOWN;
+use key_traffic::numbers::TekNumber;
+use key_traffic::numbers::tek_in_range;
+use key_traffic::octets::KEY_OCTETS;
+use key_traffic::sealing::SealedCall;
+use key_traffic::sealing::put_key;
+use key_traffic::sealing::put_opened;
+use key_traffic::suites::width;
+use message_rules::codes::SENT_OCTETS;
+use modem_calls::messages::put_out;
 use modem_limits::limits::modem_fits;
+use modem_steps::slots::NO_SLOT;
 use modem_steps::slots::slot_of_said;
 use modem_steps::state::Modem;
 use modem_steps::state::no_tek;
 use modem_steps::state::start;
+use modem_tek::tek::Tek;
+use modem_transitions::states::TEK_EVENT_INVALID;
+use questions::limits::ADDRESS_BOUND;
+use questions::limits::SAID_MAX;
 use questions::refusal::Answer;
+use questions::refusal::DONE;
+use questions::refusal::NO_KEY_FOR_FRAME;
 use questions::refusal::Refusal;
 use questions::refusal::answer_number;
 use questions::refusal::ask;
 use questions::refusal::is_done;
-use tek_machine::tek::Tek;
 
 // The machine of a SAID; one that holds nothing where the SAID is not known.
 fn machine_of(m: Modem, said: u16) -> Tek
     ensures { λ r. ⌜ r ≡ knownMachine m said ⌝ }
 {
     let i = slot_of_said(m, said);
-    if 4 <= i {
+    if NO_SLOT <= i {
         return no_tek();
     }
     m.teks[i]
@@ -47,7 +56,7 @@ fn machine_of(m: Modem, said: u16) -> Tek
 fn is_known(m: Modem, said: u16) -> bool
     ensures { λ r. ⌜ r ≡ isKnown m said ⌝ }
 {
-    slot_of_said(m, said) < 4
+    slot_of_said(m, said) < NO_SLOT
 }
 
 // All questions of `seal`; `t` is the SAID's machine, and the last two are the lengths of the lent slices.
@@ -55,8 +64,8 @@ fn seal_answer(m: Modem, said: u16, t: Tek, tek: usize, vector: usize) -> Answer
     ensures { λ a. ⌜ a ≡ sealAsked m said t tek vector ⌝ }
 {
     let pair = t.pair;
-    let q1 = modem_fits(m) & (said <= 16383);
-    let q2 = (16 <= tek) & (16 <= vector);
+    let q1 = modem_fits(m) & (said <= SAID_MAX);
+    let q2 = (KEY_OCTETS <= tek) & (KEY_OCTETS <= vector);
     let a14 = ask(can_seal(m.clock, pair), Refusal::NoKeyToSeal, Answer::Done);
     let a10 = ask(is_known(m, said), Refusal::UnknownSaid, a14);
     let a2 = ask(q2, Refusal::WrongLength, a10);
@@ -79,11 +88,11 @@ fn open_answer(
 {
     let pair = t.pair;
     let q1 = modem_fits(m)
-        & (direction == 1)
-        & (address < 281474976710656)
-        & (said <= 16383)
+        & (direction == DOWN)
+        & (address < ADDRESS_BOUND)
+        & (said <= SAID_MAX)
         & tek_in_range(number);
-    let q2 = (16 <= tek) & (16 <= vector) & (216 <= lent);
+    let q2 = (KEY_OCTETS <= tek) & (KEY_OCTETS <= vector) & (SENT_OCTETS <= lent);
     let q10 = (address == m.address) & is_known(m, said);
     let a13 = ask(
         can_open(m.clock, number, pair),
@@ -134,19 +143,18 @@ fn missing(m: Modem, said: u16, a: Answer, out: &mut [u8]) -> OpenedCall
         × (now (out .exit) ≡ overlay (now (out .entry)) (missed true a m said .sent)) ⌝ }
 {
     let i = slot_of_said(m, said);
-    let w = start(m).told(i, 5);
+    let w = start(m).deliver(i, TEK_EVENT_INVALID);
     let o = w.out;
     let after = w.modem;
     let n = put_out(o, out);
-    let next = counted(13, after);
+    let next = counted(NO_KEY_FOR_FRAME, after);
     opened_call(a, next, 0, n)
 }
 
 // The newer key of a SAID, to seal a frame with.
 pub fn seal(m: Modem, said: u16, tek: &mut [u8], vector: &mut [u8]) -> SealedCall
-    ensures { λ r. ⌜ (r ≡ sealCalled (sealOf m said (length (now (tek .entry))) (length (now (vector .entry)))))
-        × ((now (tek .exit) ≡ overlay (now (tek .entry)) (sealOf m said (length (now (tek .entry))) (length (now (vector .entry))) .out .tek))
-        × (now (vector .exit) ≡ overlay (now (vector .entry)) (sealOf m said (length (now (tek .entry))) (length (now (vector .entry))) .out .vector))) ⌝ }
+    ensures { λ r. ⌜ SealGives (sealOf m said (length (now (tek .entry))) (length (now (vector .entry))))
+        (now (tek .entry)) (now (vector .entry)) r (now (tek .exit)) (now (vector .exit)) ⌝ }
 {
     let t = machine_of(m, said);
     let a = seal_answer(m, said, t, tek.len(), vector.len());
@@ -179,10 +187,8 @@ pub fn open(
     vector: &mut [u8],
     out: &mut [u8],
 ) -> OpenedCall
-    ensures { λ r. ⌜ (r ≡ openCalled (openOf m direction address said number (length (now (tek .entry))) (length (now (vector .entry))) (length (now (out .entry)))))
-        × ((now (tek .exit) ≡ overlay (now (tek .entry)) (openOf m direction address said number (length (now (tek .entry))) (length (now (vector .entry))) (length (now (out .entry))) .out .tek))
-        × ((now (vector .exit) ≡ overlay (now (vector .entry)) (openOf m direction address said number (length (now (tek .entry))) (length (now (vector .entry))) (length (now (out .entry))) .out .vector))
-        × (now (out .exit) ≡ overlay (now (out .entry)) (openOf m direction address said number (length (now (tek .entry))) (length (now (vector .entry))) (length (now (out .entry))) .sent)))) ⌝ }
+    ensures { λ r. ⌜ OpenGives (openOf m direction address said number (length (now (tek .entry))) (length (now (vector .entry))) (length (now (out .entry))))
+        (now (tek .entry)) (now (vector .entry)) (now (out .entry)) r (now (tek .exit)) (now (vector .exit)) (now (out .exit)) ⌝ }
 {
     let t = machine_of(m, said);
     let a = open_answer(
@@ -197,11 +203,11 @@ pub fn open(
         out.len(),
     );
     let n = answer_number(a);
-    if n == 13 {
+    if n == NO_KEY_FOR_FRAME {
         return missing(m, said, a, out);
     }
     let next = counted(n, m);
-    if n != 0 {
+    if n != DONE {
         return opened_call(a, next, 0, 0);
     }
     let w = put_machine_out(t, number, m.clock, tek, vector);

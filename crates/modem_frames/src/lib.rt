@@ -1,3 +1,5 @@
-// Frames at the modem: the calls that seal one and open one. Each asks its questions in document 01's order and has no `requires`; its contract equates
-// the answer, the state and every lent octet with a definition of specs/Frames.antt.
+// Frames at the modem: questions 13 and 14 of a pair of keys and the counts of frames (specs/FrameRules.antt), and the calls that seal one and
+// open one (specs/Frames.antt). The calls ask their questions in document 01's order and have no `requires`; each contract equates the answer, the state and
+// every lent octet with a definition there.
 pub mod frames;
+pub mod rules;

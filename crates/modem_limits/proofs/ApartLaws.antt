@@ -5,9 +5,9 @@ use mathlib.Core.List.{List, [], _∷_}
 use lib.ListN.{length, getD, take}
 use Rattle.questions.specs.Apart.{pairsApart}
 use Rattle.questions.proofs.ListLaws.{of-four}
-use Rattle.wire.specs.Messages.{different}
-use Rattle.wire.proofs.ApartLaws.{pairs-different}
-use Rattle.tek_machine.specs.declared.tek.Tek.{Tek}
+use Rattle.message_rules.specs.Messages.{different}
+use Rattle.message_rules.proofs.ApartLaws.{pairs-different}
+use Rattle.modem_tek.specs.declared.tek.Tek.{Tek}
 use Rattle.modem_steps.specs.State.{pastTek}
 use Rattle.modem_limits.specs.Limits.{saidsOfTeks}
 

@@ -9,13 +9,13 @@ use lib.ListN.{length, getD, take, List·getD-eq-default}
 use borrow.Author.Tests.{leb-true, leb-false, le-leb, lt-ltb, eqb-true, eqb-false, ne-eqb, not-true}
 use Rattle.questions.specs.declared.settings.Waits.{Waits}
 use Rattle.questions.specs.Settings.{settingsFit}
-use Rattle.keys.specs.Suites.{suiteKnown, widthOf}
+use Rattle.key_traffic.specs.Suites.{suiteKnown, widthOf}
 use Rattle.questions.proofs.TestLaws.{both}
-use Rattle.wire.specs.Messages.{isNone, different}
-use Rattle.wire.proofs.HoldsLaws.{never}
-use Rattle.authorization_machine.specs.declared.authorization.Authorization.{Authorization}
-use Rattle.tek_machine.specs.declared.tek.Tek.{Tek}
-use Rattle.machines.specs.Transitions.{A, B, D, E, F}
+use Rattle.message_rules.specs.Messages.{isNone, different}
+use Rattle.message_rules.proofs.HoldsLaws.{never}
+use Rattle.modem_authorization.specs.declared.authorization.Authorization.{Authorization}
+use Rattle.modem_tek.specs.declared.tek.Tek.{Tek}
+use Rattle.modem_transitions.specs.Transitions.{A, B, D, E, F}
 use Rattle.modem_steps.specs.declared.state.Modem.{Modem}
 use Rattle.modem_steps.specs.State.{pastTek}
 use Rattle.modem_limits.specs.Limits.{timerFits, authorizationFits, pairHeldFits, longestWait, tekFits, tekZero, slotFits, saidsOfTeks, modemFits}

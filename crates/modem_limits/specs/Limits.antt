@@ -4,20 +4,20 @@ use mathlib.Core.Bool.{Bool, false, cond, _&&_, _||_, not}
 use mathlib.Core.List.{List, [], _∷_}
 use lib.Dec.{eqb, leb, ltb}
 use lib.ListN.{take}
-use Rattle.key_numbers.specs.Numbers.{akInRange}
-use Rattle.keys.specs.Addresses.{saidFits, addressFits}
+use Rattle.key_traffic.specs.Numbers.{akInRange}
+use Rattle.key_traffic.specs.Addresses.{saidFits, addressFits}
 use Rattle.questions.specs.Settings.{settingsFit}
-use Rattle.keys.specs.Suites.{suiteKnown, widthOf}
-use Rattle.keys.specs.Octets.{allZero}
-use Rattle.keys.specs.Traffic.{pairFits}
+use Rattle.key_traffic.specs.Suites.{suiteKnown, widthOf}
+use Rattle.key_traffic.specs.Octets.{allZero}
+use Rattle.key_traffic.specs.Traffic.{pairFits}
 use Rattle.questions.specs.declared.settings.Waits.{Waits}
-use Rattle.keys.specs.declared.traffic.TrafficKey.{TrafficKey}
-use Rattle.wire.specs.Messages.{different}
-use Rattle.authorization_machine.specs.declared.authorization.Authorization.{Authorization}
-use Rattle.tek_parts.specs.declared.parts.Pair.{Pair}
-use Rattle.tek_machine.specs.declared.tek.Tek.{Tek}
-use Rattle.machines.specs.declared.timer.Timer.{Timer}
-use Rattle.machines.specs.Transitions.{A, B, D, E, F}
+use Rattle.key_traffic.specs.declared.traffic.TrafficKey.{TrafficKey}
+use Rattle.message_rules.specs.Messages.{different}
+use Rattle.modem_authorization.specs.declared.authorization.Authorization.{Authorization}
+use Rattle.modem_tek.specs.declared.parts.Pair.{Pair}
+use Rattle.modem_tek.specs.declared.tek.Tek.{Tek}
+use Rattle.modem_transitions.specs.declared.timer.Timer.{Timer}
+use Rattle.modem_transitions.specs.Transitions.{A, B, D, E, F}
 use Rattle.modem_steps.specs.declared.state.Modem.{Modem}
 use Rattle.modem_steps.specs.State.{slotAt}
 

@@ -5,14 +5,14 @@ use Prim.Native.Nat.{ℕ, _+_, _≤_, _<_}
 use native.Mathlib.Omega.{arith}
 use lib.Dec.{eqb, ltb}
 use borrow.Author.Tests.{ltb-true, le-ltb, lt-ltb, ne-eqb, eq-eqb, eqb-true, eqb-false}
-use Rattle.keys.specs.Suites.{widthOf}
-use Rattle.wire.specs.declared.fields.Fields.{Fields}
+use Rattle.key_traffic.specs.Suites.{widthOf}
+use Rattle.message_rules.specs.declared.fields.Fields.{Fields}
 use Rattle.modem_steps.specs.declared.state.Modem.{Modem}
-use Rattle.modem_steps.specs.declared.state.Work.{Work}
+use Rattle.modem_steps.specs.declared.state.Progress.{Progress}
 use Rattle.modem_steps.specs.State.{slotAt, starting}
-use Rattle.modem_steps.specs.Slots.{told, toldReply, slotOfSaid, isWaiting, slotAsking}
+use Rattle.modem_steps.specs.Slots.{deliver, deliverReply, slotOfSaid, isWaiting, slotAsking}
 use Rattle.modem_reply.specs.Replied.{replied}
-use Rattle.modem_events.specs.Events.{rejected, invalidated}
+use Rattle.modem_receive.specs.Events.{rejected, invalidated}
 use Rattle.modem_receive.specs.Receive.{isKnown, paramsWide, widthsFit, saidKnown, authWaits, tekWaits, identifierFits, received}
 
 -- two codes that share an arm, as a range tells them
@@ -82,12 +82,12 @@ module _ (m : Modem) (f : Fields) where
     received-6 e = simp (ne-eqb (f .code) 5 not-5, eq-eqb (f .code) 6 e)
 
     module _ (not-6 : f .code ≡ 6 → ⊥) where
-      pub received-8 : f .code ≡ 8 → toldReply (starting m) (slotOfSaid m (f .said)) 8 (f .older) (f .newer) ≡ received m f
+      pub received-8 : f .code ≡ 8 → deliverReply (starting m) (slotOfSaid m (f .said)) 8 (f .older) (f .newer) ≡ received m f
       unfolding received
       received-8 e = simp (ne-eqb (f .code) 5 not-5, ne-eqb (f .code) 6 not-6, eq-eqb (f .code) 8 e)
 
       module _ (not-8 : f .code ≡ 8 → ⊥) where
-        pub received-9 : f .code ≡ 9 → told (starting m) (slotOfSaid m (f .said)) 9 ≡ received m f
+        pub received-9 : f .code ≡ 9 → deliver (starting m) (slotOfSaid m (f .said)) 9 ≡ received m f
         unfolding received
         received-9 e = simp (ne-eqb (f .code) 5 not-5, ne-eqb (f .code) 6 not-6, ne-eqb (f .code) 8 not-8, eq-eqb (f .code) 9 e)
 
@@ -96,19 +96,19 @@ module _ (m : Modem) (f : Fields) where
           unfolding received
           received-10 e = simp (ne-eqb (f .code) 5 not-5, ne-eqb (f .code) 6 not-6, ne-eqb (f .code) 8 not-8, ne-eqb (f .code) 9 not-9, eq-eqb (f .code) 10 e)
 
-          pub received-11 : (f .code ≡ 10 → ⊥) → told (starting m) (slotOfSaid m (f .said)) 5 ≡ received m f
+          pub received-11 : (f .code ≡ 10 → ⊥) → deliver (starting m) (slotOfSaid m (f .said)) 5 ≡ received m f
           unfolding received
           received-11 other =
               simp (ne-eqb (f .code) 5 not-5, ne-eqb (f .code) 6 not-6, ne-eqb (f .code) 8 not-8, ne-eqb (f .code) 9 not-9, ne-eqb (f .code) 10 other)
 
 -- ---- the same by other names for the slot and for the modem on its way
-module _ (m : Modem) (f : Fields) (w : Work) (i : ℕ) (r : Work) (ew : w ≡ starting m) (ei : i ≡ slotOfSaid m (f .said)) where
-  pub told-there : (event : ℕ) → r ≡ told w i event → r ≡ told (starting m) (slotOfSaid m (f .said)) event
-  told-there event e = e ∙ ap (λ (v : Work). told v i event) ew ∙ ap (λ (k : ℕ). told (starting m) k event) ei
+module _ (m : Modem) (f : Fields) (w : Progress) (i : ℕ) (r : Progress) (ew : w ≡ starting m) (ei : i ≡ slotOfSaid m (f .said)) where
+  pub deliver-there : (event : ℕ) → r ≡ deliver w i event → r ≡ deliver (starting m) (slotOfSaid m (f .said)) event
+  deliver-there event e = e ∙ ap (λ (v : Progress). deliver v i event) ew ∙ ap (λ (k : ℕ). deliver (starting m) k event) ei
 
-  pub replied-there : r ≡ toldReply w i 8 (f .older) (f .newer) → r ≡ toldReply (starting m) (slotOfSaid m (f .said)) 8 (f .older) (f .newer)
+  pub replied-there : r ≡ deliverReply w i 8 (f .older) (f .newer) → r ≡ deliverReply (starting m) (slotOfSaid m (f .said)) 8 (f .older) (f .newer)
   replied-there e =
-      e ∙ ap (λ (v : Work). toldReply v i 8 (f .older) (f .newer)) ew ∙ ap (λ (k : ℕ). toldReply (starting m) k 8 (f .older) (f .newer)) ei
+      e ∙ ap (λ (v : Progress). deliverReply v i 8 (f .older) (f .newer)) ew ∙ ap (λ (k : ℕ). deliverReply (starting m) k 8 (f .older) (f .newer)) ei
 
 module _ (m : Modem) (f : Fields) (i : ℕ) (ei : i ≡ slotOfSaid m (f .said)) where
   pub waits-there : (b : Bool) → b ≡ isWaiting (slotAt m i) → (b && eqb (slotAt m i .identifier) (f .identifier)) ≡ tekWaits m (f .said) (f .identifier)
@@ -122,13 +122,13 @@ module _ (m : Modem) (f : Fields) (i : ℕ) (ei : i ≡ slotOfSaid m (f .said)) 
       ∙ ap (λ (k : ℕ). paramsWide (widthOf (slotAt m k .suite)) (f .older) && paramsWide (widthOf (slotAt m k .suite)) (f .newer)) ei
 
 -- what holds of each code's work holds of the work of a message that is taken
-pub by-received : (m : Modem) (f : Fields) (P : Work → Type 0)
+pub by-received : (m : Modem) (f : Fields) (P : Progress → Type 0)
     → (f .code ≡ 5 → P (replied m f))
     → (f .code ≡ 6 → P (rejected m (f .error)))
-    → (f .code ≡ 8 → P (toldReply (starting m) (slotOfSaid m (f .said)) 8 (f .older) (f .newer)))
-    → (f .code ≡ 9 → P (told (starting m) (slotOfSaid m (f .said)) 9))
+    → (f .code ≡ 8 → P (deliverReply (starting m) (slotOfSaid m (f .said)) 8 (f .older) (f .newer)))
+    → (f .code ≡ 9 → P (deliver (starting m) (slotOfSaid m (f .said)) 9))
     → (f .code ≡ 10 → P (invalidated m (f .identifier)))
-    → ((f .code ≡ 5 → ⊥) → (f .code ≡ 6 → ⊥) → (f .code ≡ 10 → ⊥) → P (told (starting m) (slotOfSaid m (f .said)) 5))
+    → ((f .code ≡ 5 → ⊥) → (f .code ≡ 6 → ⊥) → (f .code ≡ 10 → ⊥) → P (deliver (starting m) (slotOfSaid m (f .said)) 5))
     → P (received m f)
 unfolding received
 by-received m f P p₅ p₆ p₈ p₉ p₁₀ p₁₁ =
@@ -139,8 +139,8 @@ by-received m f P p₅ p₆ p₈ p₉ p₁₀ p₁₁ =
 
     go : (c₅ : Bool) → eqb (f .code) 5 ≡ c₅ → (c₆ : Bool) → eqb (f .code) 6 ≡ c₆ → (c₈ : Bool) → eqb (f .code) 8 ≡ c₈
         → (c₉ : Bool) → eqb (f .code) 9 ≡ c₉ → (c₁₀ : Bool) → eqb (f .code) 10 ≡ c₁₀
-        → P (cond c₅ (replied m f) (cond c₆ (rejected m (f .error)) (cond c₈ (toldReply (starting m) i 8 (f .older) (f .newer))
-        (cond c₉ (told (starting m) i 9) (cond c₁₀ (invalidated m (f .identifier)) (told (starting m) i 5))))))
+        → P (cond c₅ (replied m f) (cond c₆ (rejected m (f .error)) (cond c₈ (deliverReply (starting m) i 8 (f .older) (f .newer))
+        (cond c₉ (deliver (starting m) i 9) (cond c₁₀ (invalidated m (f .identifier)) (deliver (starting m) i 5))))))
     go true e₅ c₆ e₆ c₈ e₈ c₉ e₉ c₁₀ e₁₀ = p₅ (eqb-true (f .code) 5 e₅)
     go false e₅ true e₆ c₈ e₈ c₉ e₉ c₁₀ e₁₀ = p₆ (eqb-true (f .code) 6 e₆)
     go false e₅ false e₆ true e₈ c₉ e₉ c₁₀ e₁₀ = p₈ (eqb-true (f .code) 8 e₈)

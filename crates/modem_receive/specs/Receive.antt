@@ -6,19 +6,19 @@ use mathlib.Core.List.{List, [], _∷_}
 use lib.Dec.{eqb, ltb}
 use Rattle.questions.specs.declared.refusal.Refusal.the-variants.{CutMessage, CodeNotReceived, BadAttribute, WrongAttributes, UnknownSaid, WrongIdentifier, DigestFails}
 use Rattle.questions.specs.Questions.{Question}
-use Rattle.keys.specs.Suites.{widthOf}
-use Rattle.wire.specs.declared.fields.Fields.{Fields}
-use Rattle.wire.specs.declared.fields.Params.{Params}
-use Rattle.wire.specs.declared.fields.Receiver.the-variants.{Modem as AtModem}
-use Rattle.wire.specs.Messages.{isWhole, question7, question8, question9}
-use Rattle.wire.specs.Reading.{takenOf}
-use Rattle.machines.specs.Transitions.{B, D}
+use Rattle.key_traffic.specs.Suites.{widthOf}
+use Rattle.message_rules.specs.declared.fields.Fields.{Fields}
+use Rattle.message_rules.specs.declared.fields.Params.{Params}
+use Rattle.message_rules.specs.declared.fields.Receiver.the-variants.{Modem as AtModem}
+use Rattle.message_rules.specs.Messages.{isWhole, question7, question8, question9}
+use Rattle.message_rules.specs.Reading.{takenOf}
+use Rattle.modem_transitions.specs.Transitions.{B, D}
 use Rattle.modem_steps.specs.declared.state.Modem.{Modem}
-use Rattle.modem_steps.specs.declared.state.Work.{Work}
+use Rattle.modem_steps.specs.declared.state.Progress.{Progress}
 use Rattle.modem_steps.specs.State.{slotAt, starting}
-use Rattle.modem_steps.specs.Slots.{told, toldReply, slotOfSaid, isWaiting, slotAsking}
+use Rattle.modem_steps.specs.Slots.{deliver, deliverReply, slotOfSaid, isWaiting, slotAsking}
 use Rattle.modem_reply.specs.Replied.{replied}
-use Rattle.modem_events.specs.Events.{rejected, invalidated}
+use Rattle.modem_receive.specs.Events.{rejected, invalidated}
 
 -- The codes about one SAID: Key Reply, Key Reject, TEK Invalid. Of those that a modem receives they are the ones with a digest
 abbrev pub ofSaid : ℕ → Bool
@@ -41,7 +41,7 @@ widthsFit m f =
 unfoldable pub saidKnown : Modem → Fields → Bool
 saidKnown m f = not (ofSaid (f .code)) || isKnown m (f .said)
 
--- ---- 11: the Identifier is that of the waiting request, or 0 where 0 is told
+-- ---- 11: the Identifier is that of the waiting request, or 0 where none waits
 abbrev pub authWaits : Modem → ℕ → Bool
 authWaits m identifier = (eqb (m .authorization .state) B || eqb (m .authorization .state) D) && eqb (m .authorization .identifier) identifier
 
@@ -82,11 +82,11 @@ pub record Takeable (m : Modem) (f : Fields) : Type 0 where
   pub newer-small : f .newer .life ≤ 604800
   pub known : (f .code ≡ 5 → ⊥) → (f .code ≡ 6 → ⊥) → (f .code ≡ 10 → ⊥) → slotOfSaid m (f .said) < 4
 
-unfoldable pub received : Modem → Fields → Work
+unfoldable pub received : Modem → Fields → Progress
 received m f =
     cond (eqb (f .code) 5) (replied m f)
     (cond (eqb (f .code) 6) (rejected m (f .error))
-    (cond (eqb (f .code) 8) (toldReply (starting m) (slotOfSaid m (f .said)) 8 (f .older) (f .newer))
-    (cond (eqb (f .code) 9) (told (starting m) (slotOfSaid m (f .said)) 9)
+    (cond (eqb (f .code) 8) (deliverReply (starting m) (slotOfSaid m (f .said)) 8 (f .older) (f .newer))
+    (cond (eqb (f .code) 9) (deliver (starting m) (slotOfSaid m (f .said)) 9)
     (cond (eqb (f .code) 10) (invalidated m (f .identifier))
-    (told (starting m) (slotOfSaid m (f .said)) 5)))))
+    (deliver (starting m) (slotOfSaid m (f .said)) 5)))))

@@ -4,25 +4,38 @@ ghost use Prim.Native.Nat.{_<_};
 ghost use mathlib.Core.Bool.{true};
 ghost use Rattle.modem_steps.specs.State.{Ready};
 ghost use Rattle.modem_receive.specs.Receive.{ofSaid, paramsWide, widthsFit, saidKnown, authWaits, identifierFits, digestHolds, Takeable, received};
-use keys::suites::width;
-use modem_events::events::invalidated;
-use modem_events::events::rejected;
+use crate::events::invalidated;
+use crate::events::rejected;
+use key_traffic::suites::width;
+use message_rules::codes::CODE_AUTHORIZATION_INVALID;
+use message_rules::codes::CODE_AUTHORIZATION_REJECT;
+use message_rules::codes::CODE_AUTHORIZATION_REPLY;
+use message_rules::codes::CODE_KEY_REJECT;
+use message_rules::codes::CODE_KEY_REPLY;
+use message_rules::codes::CODE_TEK_INVALID;
+use message_rules::codes::UNSOLICITED;
+use message_rules::fields::Fields;
+use message_rules::fields::Params;
 use modem_reply::replied::replied;
+use modem_steps::slots::NO_SLOT;
 use modem_steps::slots::is_waiting;
 use modem_steps::slots::slot_asking;
 use modem_steps::slots::slot_of_said;
 use modem_steps::state::Modem;
-use modem_steps::state::Work;
+use modem_steps::state::Progress;
 use modem_steps::state::start;
-use wire::fields::Fields;
-use wire::fields::Params;
+use modem_transitions::states::AUTH_REAUTH_WAIT;
+use modem_transitions::states::AUTH_WAIT;
+use modem_transitions::states::TEK_EVENT_INVALID;
+use modem_transitions::states::TEK_EVENT_KEY_REJECT;
+use modem_transitions::states::TEK_EVENT_KEY_REPLY;
 
 // Key Reply, Key Reject and TEK Invalid are about one SAID.
 fn is_of_said(code: u8) -> bool
     ensures { λ r. ⌜ r ≡ ofSaid code ⌝ }
 {
     match code {
-        8..=9 | 11 => true,
+        CODE_KEY_REPLY..=CODE_KEY_REJECT | CODE_TEK_INVALID => true,
         _ => false,
     }
 }
@@ -40,10 +53,10 @@ pub fn widths_fit(m: Modem, f: Fields) -> bool
     ensures { λ r. ⌜ r ≡ widthsFit m f ⌝ }
 {
     let i = slot_of_said(m, f.said);
-    if f.code != 8 {
+    if f.code != CODE_KEY_REPLY {
         return true;
     }
-    if 4 <= i {
+    if NO_SLOT <= i {
         return true;
     }
     let t = m.teks[i];
@@ -53,39 +66,40 @@ pub fn widths_fit(m: Modem, f: Fields) -> bool
     are_wide(w, older) & are_wide(w, newer)
 }
 
-// Question 10.
+// Question 10: a message that names a SAID names one that has a slot.
 pub fn said_known(m: Modem, f: Fields) -> bool
     ensures { λ r. ⌜ r ≡ saidKnown m f ⌝ }
 {
-    !is_of_said(f.code) | (slot_of_said(m, f.said) < 4)
+    !is_of_said(f.code) | (slot_of_said(m, f.said) < NO_SLOT)
 }
 
 fn is_auth_waiting(m: Modem, identifier: u8) -> bool
     ensures { λ r. ⌜ r ≡ authWaits m identifier ⌝ }
 {
     let a = m.authorization;
-    ((a.state == 1) | (a.state == 3)) & (a.identifier == identifier)
+    ((a.state == AUTH_WAIT) | (a.state == AUTH_REAUTH_WAIT)) & (a.identifier == identifier)
 }
 
-// Question 11.
+// Question 11: the Identifier is that of the request that waits, or UNSOLICITED where none may.
 pub fn identifier_fits(m: Modem, f: Fields) -> bool
     requires { ⌜ saidKnown m f ≡ true ⌝ }
     ensures { λ r. ⌜ r ≡ identifierFits m f ⌝ }
 {
     let code = f.code;
     match code {
-        5..=6 => is_auth_waiting(m, f.identifier),
-        8..=9 => {
+        CODE_AUTHORIZATION_REPLY..=CODE_AUTHORIZATION_REJECT => is_auth_waiting(m, f.identifier),
+        CODE_KEY_REPLY..=CODE_KEY_REJECT => {
             let i = slot_of_said(m, f.said);
             let t = m.teks[i];
             is_waiting(t) & (t.identifier == f.identifier)
         }
-        10 => (f.identifier == 0) | (slot_asking(m, f.identifier) < 4),
-        _ => f.identifier == 0,
+        CODE_AUTHORIZATION_INVALID => (f.identifier == UNSOLICITED)
+            | (slot_asking(m, f.identifier) < NO_SLOT),
+        _ => f.identifier == UNSOLICITED,
     }
 }
 
-// Question 12.
+// Question 12: where the message carries a digest, it holds.
 pub fn digest_holds(digest: bool, f: Fields) -> bool
     ensures { λ r. ⌜ r ≡ digestHolds digest f ⌝ }
 {
@@ -93,22 +107,22 @@ pub fn digest_holds(digest: bool, f: Fields) -> bool
 }
 
 // A message that is taken. Its fields are within the limits of a reading, and of 8, 9 and 11 the SAID is known.
-pub fn received(m: Modem, f: Fields) -> Work
+pub fn received(m: Modem, f: Fields) -> Progress
     requires { ⌜ Ready m × Takeable m f ⌝ }
     ensures { λ r. ⌜ r ≡ received m f ⌝ }
 {
     let code = f.code;
     let i = slot_of_said(m, f.said);
     match code {
-        5 => replied(m, f),
-        6 => rejected(m, f.error),
-        8 => {
+        CODE_AUTHORIZATION_REPLY => replied(m, f),
+        CODE_AUTHORIZATION_REJECT => rejected(m, f.error),
+        CODE_KEY_REPLY => {
             let older = f.older;
             let newer = f.newer;
-            start(m).told_reply(i, 8, older, newer)
+            start(m).deliver_reply(i, TEK_EVENT_KEY_REPLY, older, newer)
         }
-        9 => start(m).told(i, 9),
-        10 => invalidated(m, f.identifier),
-        _ => start(m).told(i, 5),
+        CODE_KEY_REJECT => start(m).deliver(i, TEK_EVENT_KEY_REJECT),
+        CODE_AUTHORIZATION_INVALID => invalidated(m, f.identifier),
+        _ => start(m).deliver(i, TEK_EVENT_INVALID),
     }
 }

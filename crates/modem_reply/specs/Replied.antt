@@ -1,16 +1,16 @@
 -- What an Authorization Reply does to the modem (document 01, "Modem: authorization machine").
 use mathlib.Core.Bool.{cond}
 use lib.Dec.{eqb}
-use Rattle.wire.specs.declared.fields.Fields.{Fields}
-use Rattle.machines.specs.Transitions.{D}
+use Rattle.message_rules.specs.declared.fields.Fields.{Fields}
+use Rattle.modem_transitions.specs.Transitions.{D}
 use Rattle.modem_steps.specs.declared.state.Modem.{Modem}
-use Rattle.modem_steps.specs.declared.state.Work.{Work}
+use Rattle.modem_steps.specs.declared.state.Progress.{Progress}
 use Rattle.modem_steps.specs.State.{starting}
 use Rattle.modem_reply.specs.Relist.{listedAnew, relisted}
-use Rattle.modem_steps.specs.Machine.{authTold}
+use Rattle.modem_steps.specs.Machine.{deliverAuth}
 
 -- A Reply. It is taken in B and D alone: question 11 asks for a waiting Request
-unfoldable pub replied : Modem → Fields → Work
+unfoldable pub replied : Modem → Fields → Progress
 replied m f =
-    cond (eqb (m .authorization .state) D) (relisted f (authTold (starting m) 4 (f .ak) (f .life)))
-    (listedAnew f (authTold (starting m) 4 (f .ak) (f .life)))
+    cond (eqb (m .authorization .state) D) (relisted f (deliverAuth (starting m) 4 (f .ak) (f .life)))
+    (listedAnew f (deliverAuth (starting m) 4 (f .ak) (f .life)))

@@ -1,4 +1,5 @@
-// What an Authorization Reply does to the modem: the authorization machine's step, and the TEK machines that go on, stop and start. Each contract equates
-// the result with a definition of specs/Replied.antt or specs/Relist.antt.
+// What an Authorization Reply does to the modem (specs/Replied.antt): the authorization machine's step, which TEK machines survive it
+// (specs/Listed.antt), and which stop and start (specs/Relist.antt). Each contract equates the result with a definition there.
+pub mod listed;
 pub mod relist;
 pub mod replied;

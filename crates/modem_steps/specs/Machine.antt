@@ -1,15 +1,15 @@
 -- What an event of the authorization machine does to the modem (document 01, "Modem: authorization machine").
 use Prim.Native.Nat.{ℕ}
-use Rattle.key_numbers.specs.declared.numbers.AkNumber.{AkNumber}
-use Rattle.authorization_machine.specs.declared.authorization.AuthMoment.{AuthMoment}
-use Rattle.authorization_machine.specs.declared.authorization.AuthStep.{AuthStep}
-use Rattle.authorization_machine.specs.Authorization.{authStepOf}
+use Rattle.key_traffic.specs.declared.numbers.AkNumber.{AkNumber}
+use Rattle.modem_authorization.specs.declared.authorization.AuthContext.{AuthContext}
+use Rattle.modem_authorization.specs.declared.authorization.AuthStep.{AuthStep}
+use Rattle.modem_authorization.specs.Authorization.{authStepOf}
 use Rattle.modem_steps.specs.declared.state.Modem.{Modem}
-use Rattle.modem_steps.specs.declared.state.Work.{Work}
-use Rattle.modem_steps.specs.State.{withMachines, pushed}
+use Rattle.modem_steps.specs.declared.state.Progress.{Progress}
+use Rattle.modem_steps.specs.State.{withMachines, withMessage}
 
-abbrev pub authMoment : Modem → AkNumber → ℕ → AuthMoment
-authMoment m ak life =
+abbrev pub authContext : Modem → AkNumber → ℕ → AuthContext
+authContext m ak life =
     record {
       clock = m .clock;
       authorize = m .settings .waits .authorize;
@@ -23,17 +23,17 @@ authMoment m ak life =
     }
 
 -- The authorization machine has taken a step: Authentication Information goes out before the Request
-unfoldable pub authStepped : Work → AuthStep → Work
+unfoldable pub authStepped : Progress → AuthStep → Progress
 authStepped w s =
     record {
       modem = withMachines (w .modem) (s .counter) (s .machine) (w .modem .used) (w .modem .teks);
-      out = pushed (pushed (w .out) (s .informs)) (s .requests);
+      out = withMessage (withMessage (w .out) (s .informs)) (s .requests);
     }
 
 -- Of a Reply the key's number and life; other events use neither
-unfoldable pub authTold : Work → ℕ → AkNumber → ℕ → Work
-authTold w event ak life = authStepped w (authStepOf (w .modem .authorization) event (authMoment (w .modem) ak life))
+unfoldable pub deliverAuth : Progress → ℕ → AkNumber → ℕ → Progress
+deliverAuth w event ak life = authStepped w (authStepOf (w .modem .authorization) event (authContext (w .modem) ak life))
 
 -- Any event but a Reply; established, timeout, grace and reauth are no more than this
-abbrev pub plainEvent : Work → ℕ → Work
-plainEvent w event = authTold w event (record { 0 = 0 }) 0
+abbrev pub plainEvent : Progress → ℕ → Progress
+plainEvent w event = deliverAuth w event (record { 0 = 0 }) 0

@@ -3,20 +3,20 @@ use Prim.Native.Nat.{ℕ, zero, suc}
 use mathlib.Core.Bool.{Bool, cond, _&&_, _||_}
 use lib.Dec.{eqb, ltb}
 use lib.ListN.{set}
-use Rattle.wire.specs.declared.fields.Params.{Params}
-use Rattle.wire.specs.Fields.{noParams}
-use Rattle.tek_machine.specs.declared.tek.Tek.{Tek}
-use Rattle.tek_machine.specs.declared.tek.TekMoment.{TekMoment}
-use Rattle.tek_machine.specs.declared.tek.TekStep.{TekStep}
-use Rattle.machines.specs.Transitions.{B, E}
-use Rattle.tek_machine.specs.Tek.{tekStepOf}
+use Rattle.message_rules.specs.declared.fields.Params.{Params}
+use Rattle.message_rules.specs.Fields.{noParams}
+use Rattle.modem_tek.specs.declared.tek.Tek.{Tek}
+use Rattle.modem_tek.specs.declared.tek.TekContext.{TekContext}
+use Rattle.modem_tek.specs.declared.tek.TekStep.{TekStep}
+use Rattle.modem_transitions.specs.Transitions.{B, E}
+use Rattle.modem_tek.specs.Tek.{tekStepOf}
 use Rattle.modem_steps.specs.declared.state.Modem.{Modem}
-use Rattle.modem_steps.specs.declared.state.Work.{Work}
-use Rattle.modem_steps.specs.State.{withMachines, slotAt, pushed}
+use Rattle.modem_steps.specs.declared.state.Progress.{Progress}
+use Rattle.modem_steps.specs.State.{withMachines, slotAt, withMessage}
 
 -- What a step uses of the modem
-abbrev pub tekMoment : Modem → TekMoment
-tekMoment m =
+abbrev pub tekContext : Modem → TekContext
+tekContext m =
     record {
       clock = m .clock;
       operational = m .settings .waits .operational;
@@ -27,24 +27,24 @@ tekMoment m =
     }
 
 -- The machine in slot i has taken a step
-unfoldable pub steppedAt : Work → ℕ → TekStep → Work
+unfoldable pub steppedAt : Progress → ℕ → TekStep → Progress
 steppedAt w i s =
     record {
       modem = withMachines (w .modem) (s .counter) (w .modem .authorization) (w .modem .used) (set (w .modem .teks) i (s .machine));
-      out = pushed (w .out) (s .sends);
+      out = withMessage (w .out) (s .sends);
     }
 
 -- The machine in slot i takes an event, with the TEK-Parameters of a Key Reply
-unfoldable pub toldReply : Work → ℕ → ℕ → Params → Params → Work
-toldReply w i event older newer = steppedAt w i (tekStepOf (slotAt (w .modem) i) event (tekMoment (w .modem)) older newer)
+unfoldable pub deliverReply : Progress → ℕ → ℕ → Params → Params → Progress
+deliverReply w i event older newer = steppedAt w i (tekStepOf (slotAt (w .modem) i) event (tekContext (w .modem)) older newer)
 
-abbrev pub told : Work → ℕ → ℕ → Work
-told w i event = toldReply w i event noParams noParams
+abbrev pub deliver : Progress → ℕ → ℕ → Progress
+deliver w i event = deliverReply w i event noParams noParams
 
 -- The machines in the slots below n take an event, in slot order
-unfoldable pub toldAll : ℕ → ℕ → Work → Work
-toldAll zero event w = w
-toldAll (suc n) event w = told (toldAll n event w) n event
+unfoldable pub deliverAll : ℕ → ℕ → Progress → Progress
+deliverAll zero event w = w
+deliverAll (suc n) event w = deliver (deliverAll n event w) n event
 
 -- ---- which slot: the first of those in use for which a test holds, or 4
 unfoldable pub firstSlot : (Tek → Bool) → Modem → ℕ

@@ -6,15 +6,15 @@ use lib.Dec.{eqb, leb}
 use lib.ListN.{getD, set, replicate}
 use Rattle.questions.specs.declared.settings.Settings.{Settings}
 use Rattle.questions.specs.declared.settings.Waits.{Waits}
-use Rattle.keys.specs.declared.traffic.TrafficKey.{TrafficKey}
-use Rattle.authorization_machine.specs.declared.authorization.Authorization.{Authorization}
-use Rattle.tek_parts.specs.declared.parts.Request.{Request}
-use Rattle.tek_machine.specs.declared.tek.Tek.{Tek}
-use Rattle.machines.specs.Timers.{off}
-use Rattle.tek_parts.specs.TekParts.{noPair, nothing}
+use Rattle.key_traffic.specs.declared.traffic.TrafficKey.{TrafficKey}
+use Rattle.modem_authorization.specs.declared.authorization.Authorization.{Authorization}
+use Rattle.modem_tek.specs.declared.parts.Request.{Request}
+use Rattle.modem_tek.specs.declared.tek.Tek.{Tek}
+use Rattle.modem_transitions.specs.Timers.{off}
+use Rattle.modem_tek.specs.TekParts.{noPair, nothing}
 use Rattle.modem_steps.specs.declared.state.Modem.{Modem}
 use Rattle.modem_steps.specs.declared.state.Out.{Out}
-use Rattle.modem_steps.specs.declared.state.Work.{Work}
+use Rattle.modem_steps.specs.declared.state.Progress.{Progress}
 
 -- ---- parts exchanged
 abbrev pub withMachines : Modem → ℕ → Authorization → ℕ → List Tek → Modem
@@ -67,11 +67,11 @@ slotAt m i = getD (m .teks) i pastTek
 abbrev pub noOut : Out
 noOut = record { count = 0; sent = replicate 6 nothing }
 
--- One message more, where there is one; `CallMessages` of crate `modem` shows that none is dropped
-unfoldable pub pushed : Out → Request → Out
-pushed o r = cond (eqb (r .code) 0) o (cond (leb 6 (o .count)) o (record { count = o .count + 1; sent = set (o .sent) (o .count) r }))
+-- One message more, where there is one; `CallMessages` of crate `modem_calls` shows that none is dropped
+unfoldable pub withMessage : Out → Request → Out
+withMessage o r = cond (eqb (r .code) 0) o (cond (leb 6 (o .count)) o (record { count = o .count + 1; sent = set (o .sent) (o .count) r }))
 
-abbrev pub starting : Modem → Work
+abbrev pub starting : Modem → Progress
 starting m = record { modem = m; out = noOut }
 
 -- ---- a fresh modem (document 01, "Settings"): clock 0, nothing waiting, no SAID known; its own SAID is only sent

@@ -2,20 +2,20 @@
 ghost use mathlib.Core.Path.{_≡_};
 ghost use Prim.Native.Nat.{_≤_};
 ghost use Rattle.modem_steps.specs.State.{Ready};
-ghost use Rattle.modem_steps.specs.Machine.{authMoment, authStepped, authTold, plainEvent};
+ghost use Rattle.modem_steps.specs.Machine.{authContext, authStepped, deliverAuth, plainEvent};
 use crate::state::Modem;
-use crate::state::Work;
-use authorization_machine::authorization::AuthMoment;
-use authorization_machine::authorization::AuthStep;
-use key_numbers::numbers::AkNumber;
+use crate::state::Progress;
+use key_traffic::numbers::AkNumber;
+use modem_authorization::authorization::AuthContext;
+use modem_authorization::authorization::AuthStep;
 
-fn auth_moment(m: Modem, ak: AkNumber, life: u64) -> AuthMoment
-    ensures { λ r. ⌜ r ≡ authMoment m ak life ⌝ }
+fn auth_context(m: Modem, ak: AkNumber, life: u64) -> AuthContext
+    ensures { λ r. ⌜ r ≡ authContext m ak life ⌝ }
 {
     let settings = m.settings;
     let waits = settings.waits;
     let times = settings.ak;
-    AuthMoment {
+    AuthContext {
         clock: m.clock,
         authorize: waits.authorize,
         reauthorize: waits.reauthorize,
@@ -28,9 +28,9 @@ fn auth_moment(m: Modem, ak: AkNumber, life: u64) -> AuthMoment
     }
 }
 
-impl Work {
+impl Progress {
     // The authorization machine has taken a step.
-    fn auth_stepped(self, s: AuthStep) -> Work
+    fn auth_stepped(self, s: AuthStep) -> Progress
         requires { ⌜ Ready (self .modem) ⌝ }
         ensures { λ r. ⌜ (r ≡ authStepped self s) × Ready (r .modem) ⌝ }
     {
@@ -41,26 +41,27 @@ impl Work {
         m.authorization = machine;
         m.counter = s.counter;
         let o = self.out;
-        let out = o.push(informs).push(requests);
-        Work { modem: m, out: out }
+        let out = o.with_message(informs).with_message(requests);
+        Progress { modem: m, out: out }
     }
 
-    pub fn auth_told(self, event: u8, ak: AkNumber, life: u64) -> Work
+    // The authorization machine takes an event, with the number and life of a Reply's key.
+    pub fn deliver_auth(self, event: u8, ak: AkNumber, life: u64) -> Progress
         requires { ⌜ Ready (self .modem) × (life ≤ 12096000) ⌝ }
-        ensures { λ r. ⌜ (r ≡ authTold self event ak life) × Ready (r .modem) ⌝ }
+        ensures { λ r. ⌜ (r ≡ deliverAuth self event ak life) × Ready (r .modem) ⌝ }
     {
         let m = self.modem;
         let a = m.authorization;
-        let x = auth_moment(m, ak, life);
+        let x = auth_context(m, ak, life);
         let s = a.step(event, x);
         self.auth_stepped(s)
     }
 
     // An event that is no Reply.
-    pub fn plain_event(self, event: u8) -> Work
+    pub fn plain_event(self, event: u8) -> Progress
         requires { ⌜ Ready (self .modem) ⌝ }
         ensures { λ r. ⌜ (r ≡ plainEvent self event) × Ready (r .modem) ⌝ }
     {
-        self.auth_told(event, AkNumber(0), 0)
+        self.deliver_auth(event, AkNumber(0), 0)
     }
 }

@@ -2,25 +2,30 @@
 ghost use mathlib.Core.Path.{_≡_};
 ghost use Prim.Native.Nat.{_≤_, _<_};
 ghost use Rattle.modem_steps.specs.State.{Ready};
-ghost use Rattle.modem_steps.specs.Slots.{tekMoment, steppedAt, toldReply, told, toldAll, isWaiting, slotOfSaid, asking, slotAsking};
+ghost use Rattle.modem_steps.specs.Slots.{tekContext, steppedAt, deliverReply, deliver, deliverAll, isWaiting, slotOfSaid, asking, slotAsking};
 use crate::state::Modem;
-use crate::state::Work;
-use tek_machine::tek::Tek;
-use tek_machine::tek::TekMoment;
-use tek_machine::tek::TekStep;
-use wire::fields::Params;
-use wire::fields::no_params;
+use crate::state::Progress;
+use message_rules::fields::Params;
+use message_rules::fields::no_params;
+use modem_tek::tek::Tek;
+use modem_tek::tek::TekContext;
+use modem_tek::tek::TekStep;
+use modem_transitions::states::TEK_OP_WAIT;
+use modem_transitions::states::TEK_REKEY_WAIT;
+
+// In place of a slot, where there is none.
+pub const NO_SLOT: usize = 4;
 
 // What a step of a TEK machine uses of the modem.
-pub fn tek_moment(m: Modem) -> TekMoment
-    ensures { λ r. ⌜ r ≡ tekMoment m ⌝ }
+pub fn tek_context(m: Modem) -> TekContext
+    ensures { λ r. ⌜ r ≡ tekContext m ⌝ }
 {
     let settings = m.settings;
     let waits = settings.waits;
     let times = settings.tek;
     let authorization = m.authorization;
     let ak = authorization.ak;
-    TekMoment {
+    TekContext {
         clock: m.clock,
         operational: waits.operational,
         rekey: waits.rekey,
@@ -30,9 +35,9 @@ pub fn tek_moment(m: Modem) -> TekMoment
     }
 }
 
-impl Work {
+impl Progress {
     // The machine in slot `i` has taken a step.
-    fn stepped_at(self, i: usize, s: TekStep) -> Work
+    fn stepped_at(self, i: usize, s: TekStep) -> Progress
         requires { ⌜ (i < 4) × Ready (self .modem) ⌝ }
         ensures { λ r. ⌜ (r ≡ steppedAt self i s) × Ready (r .modem) ⌝ }
     {
@@ -42,39 +47,40 @@ impl Work {
         m.teks[i] = machine;
         m.counter = s.counter;
         let o = self.out;
-        let out = o.push(sends);
-        Work { modem: m, out: out }
+        let out = o.with_message(sends);
+        Progress { modem: m, out: out }
     }
 
     // The machine in slot `i` takes an event, with the TEK-Parameters of a Key Reply.
-    pub fn told_reply(self, i: usize, event: u8, older: Params, newer: Params) -> Work
+    pub fn deliver_reply(self, i: usize, event: u8, older: Params, newer: Params) -> Progress
         requires { ⌜ (i < 4) × (Ready (self .modem) × ((older .life ≤ 604800) × (newer .life ≤ 604800))) ⌝ }
-        ensures { λ r. ⌜ (r ≡ toldReply self i event older newer) × Ready (r .modem) ⌝ }
+        ensures { λ r. ⌜ (r ≡ deliverReply self i event older newer) × Ready (r .modem) ⌝ }
     {
         let m = self.modem;
         let t = m.teks[i];
-        let x = tek_moment(m);
+        let x = tek_context(m);
         let s = t.step(event, x, older, newer);
         self.stepped_at(i, s)
     }
 
-    pub fn told(self, i: usize, event: u8) -> Work
+    // The same of an event that is no Key Reply.
+    pub fn deliver(self, i: usize, event: u8) -> Progress
         requires { ⌜ (i < 4) × Ready (self .modem) ⌝ }
-        ensures { λ r. ⌜ (r ≡ told self i event) × Ready (r .modem) ⌝ }
+        ensures { λ r. ⌜ (r ≡ deliver self i event) × Ready (r .modem) ⌝ }
     {
         let none = no_params();
-        self.told_reply(i, event, none, none)
+        self.deliver_reply(i, event, none, none)
     }
 
     // All four machines take an event, in slot order.
-    pub fn told_all(self, event: u8) -> Work
+    pub fn deliver_all(self, event: u8) -> Progress
         requires { ⌜ Ready (self .modem) ⌝ }
-        ensures { λ r. ⌜ (r ≡ toldAll 4 event self) × Ready (r .modem) ⌝ }
+        ensures { λ r. ⌜ (r ≡ deliverAll 4 event self) × Ready (r .modem) ⌝ }
     {
-        self.told(0, event)
-            .told(1, event)
-            .told(2, event)
-            .told(3, event)
+        self.deliver(0, event)
+            .deliver(1, event)
+            .deliver(2, event)
+            .deliver(3, event)
     }
 }
 
@@ -82,10 +88,10 @@ impl Work {
 pub fn is_waiting(t: Tek) -> bool
     ensures { λ r. ⌜ r ≡ isWaiting t ⌝ }
 {
-    (t.state == 1) | (t.state == 4)
+    (t.state == TEK_OP_WAIT) | (t.state == TEK_REKEY_WAIT)
 }
 
-// The first slot in use that holds the SAID, or 4.
+// The first slot in use that holds the SAID, or NO_SLOT.
 pub fn slot_of_said(m: Modem, said: u16) -> usize
     ensures { λ r. ⌜ (r ≡ slotOfSaid m said) × (r ≤ 4) ⌝ }
 {
@@ -106,7 +112,7 @@ pub fn slot_of_said(m: Modem, said: u16) -> usize
     if (3 < n) & (d.said == said) {
         return 3;
     }
-    4
+    NO_SLOT
 }
 
 fn is_asking(t: Tek, identifier: u8) -> bool
@@ -115,7 +121,7 @@ fn is_asking(t: Tek, identifier: u8) -> bool
     is_waiting(t) & (t.identifier == identifier)
 }
 
-// The first slot in use whose waiting request has the Identifier, or 4.
+// The first slot in use whose waiting request has the Identifier, or NO_SLOT.
 pub fn slot_asking(m: Modem, identifier: u8) -> usize
     ensures { λ r. ⌜ (r ≡ slotAsking m identifier) × (r ≤ 4) ⌝ }
 {
@@ -136,5 +142,5 @@ pub fn slot_asking(m: Modem, identifier: u8) -> usize
     if (3 < n) & is_asking(d, identifier) {
         return 3;
     }
-    4
+    NO_SLOT
 }

@@ -1,15 +1,19 @@
 // The modem's state, the messages of one call, and what a call hands back.
 ghost use mathlib.Core.Path.{_≡_};
-ghost use Rattle.modem_steps.specs.State.{noTek, noOut, pushed, starting, freshOf};
-use authorization_machine::authorization::Authorization;
-use key_numbers::numbers::AkNumber;
-use machines::timer::cleared;
+ghost use Rattle.modem_steps.specs.State.{noTek, noOut, withMessage, starting, freshOf};
+use key_traffic::numbers::AkNumber;
+use message_rules::codes::CODE_NONE;
+use modem_authorization::authorization::Authorization;
+use modem_tek::parts::Request;
+use modem_tek::parts::no_pair;
+use modem_tek::parts::no_request;
+use modem_tek::tek::Tek;
+use modem_transitions::states::AUTH_START;
+use modem_transitions::states::TEK_START;
+use modem_transitions::timer::cleared;
+use questions::limits::SAIDS_MAX;
 use questions::refusal::Answer;
 use questions::settings::Settings;
-use tek_machine::tek::Tek;
-use tek_parts::parts::Request;
-use tek_parts::parts::no_pair;
-use tek_parts::parts::no_request;
 
 // `said` is the modem's own, which its Authorization Requests carry; `counter` is the last Identifier taken; of the four slots the first
 // `used` hold machines; `taken` and `refused` count frames.
@@ -22,19 +26,22 @@ pub struct Modem {
     pub counter: u8,
     pub authorization: Authorization,
     pub used: usize,
-    pub teks: [Tek; 4],
+    pub teks: [Tek; SAIDS_MAX],
     pub taken: u64,
     pub refused: u64,
 }
 
+// Messages that one call sends, at most.
+pub const MESSAGES_MAX: usize = 6;
+
 // The messages of one call in order: the first `count`.
 pub struct Out {
     pub count: usize,
-    pub sent: [Request; 6],
+    pub sent: [Request; MESSAGES_MAX],
 }
 
 // The modem on its way through a call, with the messages so far.
-pub struct Work {
+pub struct Progress {
     pub modem: Modem,
     pub out: Out,
 }
@@ -55,7 +62,7 @@ pub fn no_tek() -> Tek
     Tek {
         said: 0,
         suite: 0,
-        state: 0,
+        state: TEK_START,
         identifier: 0,
         timer: timer,
         pair: pair,
@@ -68,7 +75,7 @@ pub fn fresh(settings: Settings, address: u64, said: u16) -> Modem
 {
     let timer = cleared();
     let authorization = Authorization {
-        state: 0,
+        state: AUTH_START,
         identifier: 0,
         ak: AkNumber(0),
         timer: timer,
@@ -82,32 +89,33 @@ pub fn fresh(settings: Settings, address: u64, said: u16) -> Modem
         counter: 0,
         authorization: authorization,
         used: 0,
-        teks: [t; 4],
+        teks: [t; SAIDS_MAX],
         taken: 0,
         refused: 0,
     }
 }
 
+// No messages.
 pub fn no_out() -> Out
     ensures { λ r. ⌜ r ≡ noOut ⌝ }
 {
     let none = no_request();
     Out {
         count: 0,
-        sent: [none; 6],
+        sent: [none; MESSAGES_MAX],
     }
 }
 
 impl Out {
     // One message more, where there is one and room for it.
-    pub fn push(self, r: Request) -> Out
-        ensures { λ o. ⌜ o ≡ pushed self r ⌝ }
+    pub fn with_message(self, r: Request) -> Out
+        ensures { λ o. ⌜ o ≡ withMessage self r ⌝ }
     {
         let n = self.count;
-        if r.code == 0 {
+        if r.code == CODE_NONE {
             return self;
         }
-        if 6 <= n {
+        if MESSAGES_MAX <= n {
             return self;
         }
         let mut o = self;
@@ -117,11 +125,12 @@ impl Out {
     }
 }
 
-pub fn start(m: Modem) -> Work
+// A call begins: nothing is sent yet.
+pub fn start(m: Modem) -> Progress
     ensures { λ r. ⌜ r ≡ starting m ⌝ }
 {
     let none = no_out();
-    Work {
+    Progress {
         modem: m,
         out: none,
     }

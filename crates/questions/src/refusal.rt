@@ -5,6 +5,7 @@ ghost use Rattle.questions.specs.declared.refusal.Answer.the-variants.{R
 ghost use Rattle.questions.specs.Questions.{answerThen};
 ghost use Rattle.questions.specs.Refusal.{numberOf, answerNumber, isDone};
 
+// The 14 refusals, in the order of document 01's questions.
 pub enum Refusal {
     OutOfLimits,
     WrongLength,
@@ -22,6 +23,7 @@ pub enum Refusal {
     NoKeyToSeal,
 }
 
+// Document 01's number of a refusal.
 pub fn number(r: Refusal) -> u8
     ensures { λ n. ⌜ n ≡ numberOf r ⌝ }
 {
@@ -43,20 +45,34 @@ pub fn number(r: Refusal) -> u8
     }
 }
 
+// Numbers that code gives or compares without the type: nothing refused, and four of the refusals.
+pub const DONE: u8 = 0;
+
+pub const OUT_OF_LIMITS: u8 = 1;
+
+pub const WRONG_LENGTH: u8 = 2;
+
+pub const UNKNOWN_SAID: u8 = 10;
+
+pub const NO_KEY_FOR_FRAME: u8 = 13;
+
+// What a call answers.
 pub enum Answer {
     Done,
     Refused(Refusal),
 }
 
+// 0 for done, else the refusal's number.
 pub fn answer_number(a: Answer) -> u8
     ensures { λ n. ⌜ n ≡ answerNumber a ⌝ }
 {
     match a {
-        Answer::Done => 0,
+        Answer::Done => DONE,
         Answer::Refused(r) => number(r),
     }
 }
 
+// Whether nothing is refused.
 pub fn is_done(a: Answer) -> bool
     ensures { λ r. ⌜ r ≡ isDone a ⌝ }
 {

@@ -1,6 +1,13 @@
 // The settings that both ends share, and the question that asks their limits (question 1).
 ghost use mathlib.Core.Path.{_≡_};
 ghost use Rattle.questions.specs.Settings.{halfOf, lifeFits, tekTimesFit, akTimesFit, waitFits, waitsFit, settingsFit, noSettings};
+use crate::limits::AK_LIFE_MAX;
+use crate::limits::AK_LIFE_MIN;
+use crate::limits::GRACE_MIN;
+use crate::limits::TEK_LIFE_MAX;
+use crate::limits::TEK_LIFE_MIN;
+use crate::limits::WAIT_MAX;
+use crate::limits::WAIT_MIN;
 
 // Traffic keys: lifetime L and grace, in seconds.
 #[repr(C)]
@@ -26,6 +33,7 @@ pub struct Waits {
     pub reject: u64,
 }
 
+// All settings; both ends have the same.
 #[repr(C)]
 pub struct Settings {
     pub tek: TekTimes,
@@ -40,30 +48,37 @@ pub fn half(t: TekTimes) -> u64
     t.life / 2
 }
 
+// Whether a TEK's life may be set: even, so that H is whole.
 pub fn life_fits(life: u64) -> bool
     ensures { λ r. ⌜ r ≡ lifeFits life ⌝ }
 {
-    (life % 2 == 0) & (1800 <= life) & (life <= 604800)
+    (life % 2 == 0) & (TEK_LIFE_MIN <= life) & (life <= TEK_LIFE_MAX)
 }
 
+// Whether life and grace of traffic keys may be set.
 pub fn tek_times_fit(t: TekTimes) -> bool
     ensures { λ r. ⌜ r ≡ tekTimesFit t ⌝ }
 {
-    life_fits(t.life) & (300 <= t.grace) & (t.grace < half(t))
+    life_fits(t.life) & (GRACE_MIN <= t.grace) & (t.grace < half(t))
 }
 
+// Whether life and grace of authorization keys may be set.
 pub fn ak_times_fit(t: AkTimes) -> bool
     ensures { λ r. ⌜ r ≡ akTimesFit t ⌝ }
 {
-    (86400 <= t.life) & (t.life <= 6048000) & (300 <= t.grace) & (t.grace <= t.life / 2)
+    (AK_LIFE_MIN <= t.life)
+        & (t.life <= AK_LIFE_MAX)
+        & (GRACE_MIN <= t.grace)
+        & (t.grace <= t.life / 2)
 }
 
 fn wait_fits(seconds: u64) -> bool
     ensures { λ r. ⌜ r ≡ waitFits seconds ⌝ }
 {
-    (1 <= seconds) & (seconds <= 600)
+    (WAIT_MIN <= seconds) & (seconds <= WAIT_MAX)
 }
 
+// Whether all five waits may be set.
 pub fn waits_fit(w: Waits) -> bool
     ensures { λ r. ⌜ r ≡ waitsFit w ⌝ }
 {

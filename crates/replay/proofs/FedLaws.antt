@@ -8,8 +8,8 @@ use native.Mathlib.Numerals.{add-one}
 use lib.ListN.{length, take, drop, set, getD}
 use lib.Seq.{length-take-le}
 use borrow.Author.Tests.{lt-ltb, le-ltb, eq-eqb, ne-eqb}
-use Rattle.replay_start.specs.declared.start.Replay.{Replay}
-use Rattle.replay_start.specs.Replay.{afterLine}
+use Rattle.replay.specs.declared.start.Replay.{Replay}
+use Rattle.replay.specs.Replay.{afterLine}
 use Rattle.replay.specs.Fed.{Pending, kept, fedBy, fedAll, pendingIn, Fed}
 
 -- ---- a character that is kept

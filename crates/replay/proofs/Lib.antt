@@ -1,2 +1,4 @@
+pub mod StartLaws
+pub mod LineLaws
 pub mod FedLaws
 pub mod TurnLaws

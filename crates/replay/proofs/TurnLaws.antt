@@ -7,26 +7,26 @@ use Prim.Native.Nat.{ℕ, _+_, _*_, _≤_, _<_}
 use native.Mathlib.Omega.{arith}
 use lib.ListN.{length, take, drop, replicate, length-append, length-drop}
 use borrow.Author.Tests.{lt-leb}
-use Rattle.keys.specs.Octets.{overlay}
+use Rattle.key_traffic.specs.Octets.{overlay}
 use lib.Seq.{length-take-le}
-use Rattle.calls.specs.declared.Kind.{Kind}
-use Rattle.calls.specs.declared.Call.{Call}
-use Rattle.plant.specs.World.{Step}
-use Rattle.replay_call.specs.declared.call.ReadCall.{ReadCall}
-use Rattle.line_fields.specs.declared.octets.Place.{Place}
+use Rattle.replay_read.specs.declared.calls.Kind.{Kind}
+use Rattle.replay_read.specs.declared.calls.Call.{Call}
+use Rattle.demand_plant.specs.World.{Step}
+use Rattle.replay_read.specs.declared.call.ReadCall.{ReadCall}
+use Rattle.replay_fields.specs.declared.octets.Place.{Place}
 use Rattle.replay_answer.specs.Answer.{answerText, Room}
-use Rattle.hex_text.proofs.HexLaws.{octets-length}
-use Rattle.line_fields.specs.Fields.{isLine}
-use Rattle.hex_text.specs.Hex.{octetsOf}
-use Rattle.replay_call.specs.Call.{Told, callOf}
-use Rattle.replay_call.specs.Reads.{Reads}
-use Rattle.apply_rules.specs.declared.ends.Ends.{Ends}
-use Rattle.apply_rules.specs.declared.ends.Applied.{Applied}
-use Rattle.apply_rules.specs.Steps.{worldOf, stepFor}
-use Rattle.apply_rules.specs.Gave.{gaveOf}
-use Rattle.apply_rules.specs.Applied.{appliedOf}
+use Rattle.text.proofs.HexLaws.{octets-length}
+use Rattle.replay_fields.specs.Fields.{isLine}
+use Rattle.text.specs.Hex.{octetsOf}
+use Rattle.replay_read.specs.Call.{LineCall, callOf}
+use Rattle.replay_read.specs.Reads.{Reads}
+use Rattle.replay_apply.specs.declared.ends.Ends.{Ends}
+use Rattle.replay_apply.specs.declared.ends.Applied.{Applied}
+use Rattle.replay_apply.specs.Steps.{worldOf, stepFor}
+use Rattle.replay_apply.specs.Gave.{gaveOf}
+use Rattle.replay_apply.specs.Applied.{appliedOf}
 use Rattle.replay.specs.declared.turn.Turned.{Turned}
-use Rattle.replay_start.specs.Turn.{noCallText, answeredBy, endsAfter, turnTextFor, turnEndsFor}
+use Rattle.replay.specs.Turn.{noCallText, answeredBy, endsAfter, turnTextFor, turnEndsFor, AnswersStep}
 
 -- The octets in front are those that were written
 pub take-front : (w rest : List ℕ) → take (length w) (w ++ rest) ≡ w
@@ -98,41 +98,41 @@ module _ (e : Ends) (c : Call) (octets key : List ℕ) (a : Applied) (tek vector
   ends-are = ap (λ (y : Applied). y .ends) is
 
 -- ---- a line by what it says
-abbrev Turns : Ends → Option Told → List ℕ → Turned → List ℕ → Type 0
-Turns e o out r after = (r .ends ≡ turnEndsFor e o) × ((r .count ≡ length (turnTextFor e o)) × (after ≡ overlay out (turnTextFor e o)))
+abbrev Turns : Ends → Option LineCall → List ℕ → Turned → List ℕ → Type 0
+Turns e o out r after = (r .ends ≡ turnEndsFor e o) × (r .count ≡ length (turnTextFor e o)) × (after ≡ overlay out (turnTextFor e o))
 
 -- A line that is too long is no call
 pub too-long : (e : Ends) (line out after : List ℕ) (r : Turned) → 16384 < length line → r ≡ record { count = 2; ends = e } → after ≡ overlay out noCallText
     → Turns e (callOf line) out r after
 unfolding callOf isLine
-too-long e line out after r h p q = simp (lt-leb (length line) 16384 h) ((ap (λ (y : Turned). y .ends) p, (ap (λ (y : Turned). y .count) p, q)))
+too-long e line out after r h p q = simp (lt-leb (length line) 16384 h) ((ap (λ (y : Turned). y .ends) p, ap (λ (y : Turned). y .count) p, q))
 
 -- One that says none is none
-pub says-none : (e : Ends) (line out after : List ℕ) (o : Option Told) (c : ReadCall) (r : Turned) → Reads line o c → c .«is_call» ≡ false
+pub says-none : (e : Ends) (line out after : List ℕ) (o : Option LineCall) (c : ReadCall) (r : Turned) → Reads line o c → c .«is_call» ≡ false
     → r ≡ record { count = 2; ends = e } → after ≡ overlay out noCallText → Turns e o out r after
-says-none e line out after none c r reads isnt p q = (ap (λ (y : Turned). y .ends) p, (ap (λ (y : Turned). y .count) p, q))
+says-none e line out after none c r reads isnt p q = (ap (λ (y : Turned). y .ends) p, ap (λ (y : Turned). y .count) p, q)
 says-none e line out after (some t) c r reads isnt p q =
-    let z : true ≡ false = sym (reads .told) ∙ isnt in let y : _≡_ {A = ℕ} 0 1 = cc in absurd (omega arith)
+    let z : true ≡ false = sym (reads .call-there) ∙ isnt in let y : _≡_ {A = ℕ} 0 1 = cc in absurd (omega arith)
 
 -- One that says a call is that call's step, with the octets and the key that it says
 abbrev Answers : Ends → Step → Kind → List ℕ → Turned → List ℕ → Type 0
-Answers e s k out r after = (r .ends ≡ endsAfter e s) × ((r .count ≡ length (answeredBy e s k)) × (after ≡ overlay out (answeredBy e s k)))
+Answers e s k out r after = AnswersStep e s k out (r .ends) (r .count) after
 
 abbrev stepRead : ReadCall → List ℕ → Step
 stepRead c line =
     stepFor (c .call) (octetsOf (take (2 * c .octets .count) (drop (c .octets .at) line))) (octetsOf (take (2 * c .key .count) (drop (c .key .at) line))) 16 16 342
 
-pub says-call : (e : Ends) (line out after : List ℕ) (o : Option Told) (c : ReadCall) (r : Turned) → Reads line o c → c .«is_call» ≡ true
+pub says-call : (e : Ends) (line out after : List ℕ) (o : Option LineCall) (c : ReadCall) (r : Turned) → Reads line o c → c .«is_call» ≡ true
     → Answers e (stepRead c line) (c .call .kind) out r after → Turns e o out r after
 says-call e line out after none c r reads yes′ h =
-    let z : true ≡ false = sym yes′ ∙ reads .told in let y : _≡_ {A = ℕ} 0 1 = cc in absurd (omega arith)
+    let z : true ≡ false = sym yes′ ∙ reads .call-there in let y : _≡_ {A = ℕ} 0 1 = cc in absurd (omega arith)
 says-call e line out after (some t) c r reads yes′ h =
     let step : stepRead c line ≡ stepFor (t .call) (t .octets) (t .key) 16 16 342 =
     ap (λ (l : List ℕ). stepFor (c .call) l (octetsOf (take (2 * c .key .count) (drop (c .key .at) line))) 16 16 342) (reads .octets-at .says)
     ∙ ap (λ (l : List ℕ). stepFor (c .call) (t .octets) l 16 16 342) (reads .key-at .says)
     ∙ ap (λ (k : Call). stepFor k (t .octets) (t .key) 16 16 342) (reads .call-is) in
-    let told = subst (λ (x : Step). Answers e x (c .call .kind) out r after) step h in
-    subst (λ (k : Kind). Answers e (stepFor (t .call) (t .octets) (t .key) 16 16 342) k out r after) (ap (λ (k : Call). k .kind) (reads .call-is)) told
+    let stepped = subst (λ (x : Step). Answers e x (c .call .kind) out r after) step h in
+    subst (λ (k : Kind). Answers e (stepFor (t .call) (t .octets) (t .key) 16 16 342) k out r after) (ap (λ (k : Call). k .kind) (reads .call-is)) stepped
 
 -- ---- the octets and the key of a line, taken out of it
 octets-taken : (line out : List ℕ) (p : Place) (after : List ℕ) → after ≡ overlay out (octetsOf (take (2 * p .count) (drop (p .at) line)))
@@ -142,12 +142,12 @@ octets-taken line out p after e h =
     let n : length w ≡ p .count = octets-length (p .count) (drop (p .at) line) (simp length-drop (omega arith)) in
     ap (λ k. take k after) (sym n) ∙ ap (take (length w)) e ∙ take-front w (drop (length w) out)
 
-pub told-line : (e : Ends) (line : List ℕ) (c : Call) (o k : Place) (octets key out after : List ℕ) (r : Turned)
+pub call-line : (e : Ends) (line : List ℕ) (c : Call) (o k : Place) (octets key out after : List ℕ) (r : Turned)
     → octets ≡ overlay (replicate 8192 0) (octetsOf (take (2 * o .count) (drop (o .at) line)))
     → key ≡ overlay (replicate 8192 0) (octetsOf (take (2 * k .count) (drop (k .at) line)))
     → o .at + 2 * o .count ≤ length line → k .at + 2 * k .count ≤ length line
     → Answers e (stepFor c (take (o .count) octets) (take (k .count) key) 16 16 342) (c .kind) out r after
     → Answers e (stepFor c (octetsOf (take (2 * o .count) (drop (o .at) line))) (octetsOf (take (2 * k .count) (drop (k .at) line))) 16 16 342) (c .kind) out r after
-told-line e line c o k octets key out after r p q h i x =
+call-line e line c o k octets key out after r p q h i x =
     let one = subst (λ (l : List ℕ). Answers e (stepFor c l (take (k .count) key) 16 16 342) (c .kind) out r after) (octets-taken line (replicate 8192 0) o octets p h) x in
     subst (λ (l : List ℕ). Answers e (stepFor c (octetsOf (take (2 * o .count) (drop (o .at) line))) l 16 16 342) (c .kind) out r after) (octets-taken line (replicate 8192 0) k key q i) one

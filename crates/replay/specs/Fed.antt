@@ -6,8 +6,8 @@ use mathlib.Core.List.{List, [], _∷_, _++_}
 use Prim.Native.Nat.{ℕ, _≤_}
 use lib.Dec.{eqb, ltb}
 use lib.ListN.{length, take}
-use Rattle.replay_start.specs.declared.start.Replay.{Replay}
-use Rattle.replay_start.specs.Replay.{afterLine}
+use Rattle.replay.specs.declared.start.Replay.{Replay}
+use Rattle.replay.specs.Replay.{afterLine}
 use Rattle.replay.specs.declared.Reading.{Reading}
 
 -- A run, and the characters of the line that comes

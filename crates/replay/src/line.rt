@@ -2,16 +2,16 @@
 ghost use mathlib.Core.Path.{_≡_};
 ghost use Prim.Native.Nat.{_≤_};
 ghost use lib.ListN.{length};
-ghost use Rattle.replay_start.specs.declared.start.Stage.the-variants.{Running};
-ghost use Rattle.replay_start.specs.Takes.{Takes};
+ghost use Rattle.replay.specs.declared.start.Stage.the-variants.{Running};
+ghost use Rattle.replay.specs.Takes.{Takes};
+use crate::lines::Taken;
+use crate::lines::take_modem;
+use crate::lines::take_modem_names;
+use crate::lines::take_settings;
+use crate::lines::take_settings_names;
+use crate::start::Replay;
+use crate::start::Stage;
 use crate::turn::turn;
-use replay_start::lines::Taken;
-use replay_start::lines::take_modem;
-use replay_start::lines::take_modem_names;
-use replay_start::lines::take_settings;
-use replay_start::lines::take_settings_names;
-use replay_start::start::Replay;
-use replay_start::start::Stage;
 
 fn take_call(s: Replay, line: &[u8], out: &mut [u8]) -> Taken
     requires { ⌜ 1024 ≤ length (now out) ⌝ }

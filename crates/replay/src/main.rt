@@ -1,24 +1,28 @@
 // The program `replay`: calls of both ends from standard input, a line each, and an answer a line on standard output, so that another
-// implementation can be held against the engine call by call. Its promises: `apply::apply`, one call applied to both ends and the records as
-// values, gives plant's definition of that step (`stepOf`), with every lent octet, by `apply_rules`' specs/Steps.antt and specs/Gave.antt;
-// `line::take_line`, the state after any line and the text that it answers are those of `replay_start`'s specs/Replay.antt. Here lines are cut
-// out of the input, and the answers written. No contract can say which octets the C library's calls read and write.
-mod apply;
-mod clock;
+// implementation can be held against the engine call by call. Its promise: with `line::take_line`, the state after any line and the text
+// that it answers are those of specs/Replay.antt, over specs/Turn.antt for a line that is a call. What a line may say is `replay_read`'s, one
+// call applied to both ends and the records `replay_apply`'s. Here lines are cut out of the input, and the answers written. No contract can say
+// which octets the C library's calls read and write.
 mod line;
+mod lines;
+mod start;
 mod turn;
 
 ghost use mathlib.Core.Path.{_≡_};
 ghost use Prim.Native.Nat.{_≤_, _<_};
 ghost use lib.ListN.{length, take};
-ghost use Rattle.replay_start.specs.Replay.{afterLine};
+ghost use Rattle.replay.specs.Replay.{afterLine};
 ghost use Rattle.replay.specs.Fed.{kept, fedBy, fedAll, pendingIn, Fed};
 use crate::line::take_line;
+use crate::lines::put_end;
+use crate::start::Replay;
+use crate::start::begin;
 use libc::STDIN_FILENO;
 use libc::STDOUT_FILENO;
-use replay_start::lines::put_end;
-use replay_start::start::Replay;
-use replay_start::start::begin;
+use text::characters::LINE_FEED;
+
+// Characters that are kept of a line: one more than the longest that is read, so that a longer one is known by its length.
+const LINE_KEPT: usize = 16385;
 
 // A run, and how many characters of the line that comes stand in the slice lent for it.
 struct Reading {
@@ -42,7 +46,7 @@ fn keep(count: usize, line: &mut [u8], b: u8) -> usize
     requires { ⌜ (count ≤ 16385) × (16385 ≤ length (now line)) ⌝ }
     ensures { λ r. ⌜ (take r (now (line .exit)) ≡ kept (take count (now (line .entry))) b) × (r ≤ 16385) ⌝ }
 {
-    if count < 16385 {
+    if count < LINE_KEPT {
         line[count] = b;
         return count + 1;
     }
@@ -54,7 +58,7 @@ fn take_octet(s: Replay, count: usize, line: &mut [u8], b: u8) -> Reading
     requires { ⌜ (count ≤ 16385) × (16385 ≤ length (now line)) ⌝ }
     ensures { λ r. ⌜ Fed (fedBy (pendingIn s count (now (line .entry))) b) r (now (line .exit)) ⌝ }
 {
-    if b == 10 {
+    if b == LINE_FEED {
         let replay = answer(s, &line[..count]);
         return Reading {
             replay: replay,
@@ -135,7 +139,7 @@ fn turns_left(turns: u64, is_more: bool) -> u64
 
 // A proved loop has to end, and nothing says that the input does: the turns are counted down from a number that no run uses up.
 fn main() {
-    let mut line = [0u8; 16385];
+    let mut line = [0u8; LINE_KEPT];
     let mut replay = begin();
     let mut count: usize = 0;
     let mut turns = u64::MAX;

@@ -2,18 +2,24 @@
 ghost use mathlib.Core.Path.{_≡_};
 ghost use Prim.Native.Nat.{_+_, _*_, _≤_};
 ghost use lib.ListN.{length, take, drop};
-ghost use Rattle.keys.specs.Octets.{overlay};
-ghost use Rattle.apply_rules.specs.Steps.{stepFor};
-ghost use Rattle.hex_text.specs.Hex.{octetsOf};
-ghost use Rattle.replay_start.specs.Turn.{noCallText, answeredBy, endsAfter, turnText, turnEnds};
-use crate::apply::apply;
-use apply_rules::ends::Ends;
-use calls::Call;
-use hex_text::hex::put_octets_at;
-use line_fields::octets::Place;
+ghost use Rattle.key_traffic.specs.Octets.{overlay};
+ghost use Rattle.replay_apply.specs.Steps.{stepFor};
+ghost use Rattle.text.specs.Hex.{octetsOf};
+ghost use Rattle.replay.specs.Turn.{noCallText, AnswersStep, AnswersLine};
+use crate::lines::put_no_call;
+use key_traffic::octets::KEY_OCTETS;
+use message_rules::codes::ANSWER_OCTETS;
 use replay_answer::answer::put_answer;
-use replay_call::call::read_call;
-use replay_start::lines::put_no_call;
+use replay_apply::apply::apply;
+use replay_apply::ends::Ends;
+use replay_fields::fields::LINE_MAX;
+use replay_fields::octets::Place;
+use replay_read::call::read_call;
+use replay_read::calls::Call;
+use text::hex::put_octets_at;
+
+// Octets that the digits of a line may say: half as many as its characters.
+const LINE_OCTETS: usize = 8192;
 
 // The ends after a line, and how many characters were answered.
 pub struct Turned {
@@ -24,14 +30,13 @@ pub struct Turned {
 // A call with its octets and its key, applied; the answer is written.
 fn applied_line(e: Ends, c: Call, octets: &[u8], key: &[u8], out: &mut [u8]) -> Turned
     requires { ⌜ 1024 ≤ length (now out) ⌝ }
-    ensures { λ r. ⌜ (r .ends ≡ endsAfter e (stepFor c (now (octets .entry)) (now (key .entry)) 16 16 342))
-        × ((r .count ≡ length (answeredBy e (stepFor c (now (octets .entry)) (now (key .entry)) 16 16 342) (c .kind)))
-        × (now (out .exit) ≡ overlay (now (out .entry)) (answeredBy e (stepFor c (now (octets .entry)) (now (key .entry)) 16 16 342) (c .kind)))) ⌝ }
+    ensures { λ r. ⌜ AnswersStep e (stepFor c (now (octets .entry)) (now (key .entry)) 16 16 342) (c .kind) (now (out .entry))
+        (r .ends) (r .count) (now (out .exit)) ⌝ }
     ensures { λ r. ⌜ r .count ≤ 1024 ⌝ }
 {
-    let mut tek = [0u8; 16];
-    let mut vector = [0u8; 16];
-    let mut sent = [0u8; 342];
+    let mut tek = [0u8; KEY_OCTETS];
+    let mut vector = [0u8; KEY_OCTETS];
+    let mut sent = [0u8; ANSWER_OCTETS];
     let a = apply(e, c, octets, key, &mut tek, &mut vector, &mut sent);
     let width = a.width;
     let count = a.count;
@@ -54,15 +59,14 @@ fn applied_line(e: Ends, c: Call, octets: &[u8], key: &[u8], out: &mut [u8]) -> 
 }
 
 // The call of a line, with its octets and its key taken out of it.
-fn told_line(e: Ends, line: &[u8], c: Call, o: Place, k: Place, out: &mut [u8]) -> Turned
+fn call_line(e: Ends, line: &[u8], c: Call, o: Place, k: Place, out: &mut [u8]) -> Turned
     requires { ⌜ (o .at + 2 * o .count ≤ length (now line)) × ((k .at + 2 * k .count ≤ length (now line)) × ((length (now line) ≤ 16384) × (1024 ≤ length (now out)))) ⌝ }
-    ensures { λ r. ⌜ (r .ends ≡ endsAfter e (stepFor c (octetsOf (take (2 * o .count) (drop (o .at) (now (line .entry))))) (octetsOf (take (2 * k .count) (drop (k .at) (now (line .entry))))) 16 16 342))
-        × ((r .count ≡ length (answeredBy e (stepFor c (octetsOf (take (2 * o .count) (drop (o .at) (now (line .entry))))) (octetsOf (take (2 * k .count) (drop (k .at) (now (line .entry))))) 16 16 342) (c .kind)))
-        × (now (out .exit) ≡ overlay (now (out .entry)) (answeredBy e (stepFor c (octetsOf (take (2 * o .count) (drop (o .at) (now (line .entry))))) (octetsOf (take (2 * k .count) (drop (k .at) (now (line .entry))))) 16 16 342) (c .kind)))) ⌝ }
+    ensures { λ r. ⌜ AnswersStep e (stepFor c (octetsOf (take (2 * o .count) (drop (o .at) (now (line .entry))))) (octetsOf (take (2 * k .count) (drop (k .at) (now (line .entry))))) 16 16 342)
+        (c .kind) (now (out .entry)) (r .ends) (r .count) (now (out .exit)) ⌝ }
     ensures { λ r. ⌜ r .count ≤ 1024 ⌝ }
 {
-    let mut octets = [0u8; 8192];
-    let mut key = [0u8; 8192];
+    let mut octets = [0u8; LINE_OCTETS];
+    let mut key = [0u8; LINE_OCTETS];
     let n = o.count;
     let m = k.count;
     put_octets_at(line, o.at, n, &mut octets);
@@ -79,14 +83,13 @@ fn no_call(e: Ends, out: &mut [u8]) -> Turned
     Turned { count: n, ends: e }
 }
 
+// A line of a run that has its set-up: the ends after it, and its answer at the front of `out`.
 pub fn turn(e: Ends, line: &[u8], out: &mut [u8]) -> Turned
     requires { ⌜ 1024 ≤ length (now out) ⌝ }
-    ensures { λ r. ⌜ (r .ends ≡ turnEnds e (now (line .entry)))
-        × ((r .count ≡ length (turnText e (now (line .entry))))
-        × (now (out .exit) ≡ overlay (now (out .entry)) (turnText e (now (line .entry))))) ⌝ }
+    ensures { λ r. ⌜ AnswersLine e (now (line .entry)) (now (out .entry)) (r .ends) (r .count) (now (out .exit)) ⌝ }
     ensures { λ r. ⌜ r .count ≤ 1024 ⌝ }
 {
-    if 16384 < line.len() {
+    if LINE_MAX < line.len() {
         return no_call(e, out);
     }
     let r = read_call(line);
@@ -96,5 +99,5 @@ pub fn turn(e: Ends, line: &[u8], out: &mut [u8]) -> Turned
     let c = r.call;
     let o = r.octets;
     let k = r.key;
-    told_line(e, line, c, o, k, out)
+    call_line(e, line, c, o, k, out)
 }

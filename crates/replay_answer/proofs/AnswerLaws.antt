@@ -6,10 +6,10 @@ use Prim.Native.Nat.{ℕ, _+_, _≤_}
 use native.Mathlib.Omega.{arith}
 use lib.ListN.{length, set, length-append}
 use lib.Seq.{sets}
-use Rattle.keys.specs.Put.{Put}
-use Rattle.keys.specs.Octets.{overlay}
-use Rattle.keys.proofs.StoreLaws.{sets-append, put-as, put-none, put-whole}
-use Rattle.calls.specs.declared.Kind.{Kind}
+use Rattle.key_traffic.specs.Put.{Put}
+use Rattle.key_traffic.specs.Octets.{overlay}
+use Rattle.key_traffic.proofs.StoreLaws.{sets-append, put-as, put-none, put-whole}
+use Rattle.replay_read.specs.declared.calls.Kind.{Kind}
 use Rattle.text.specs.Decimal.{decimalOf, numberText}
 use Rattle.replay_answer.specs.Answer.{textIf, restText}
 

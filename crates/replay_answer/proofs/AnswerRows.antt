@@ -1,9 +1,9 @@
 -- Answers as computed rows: what is written for an answer and for the counts.
 use mathlib.Core.Path.{_≡_, refl}
 use mathlib.Core.List.{[], _∷_}
-use Rattle.calls.specs.declared.Kind.the-variants as kind
+use Rattle.replay_read.specs.declared.calls.Kind.the-variants as kind
 use Rattle.text.specs.Decimal.{decimalWith, decimalOf, numberText}
-use Rattle.hex_text.specs.Hex.{hexDigit, hexOf}
+use Rattle.text.specs.Hex.{hexDigit, hexOf}
 use Rattle.replay_answer.specs.Answer.{commaHex, answerText, countsText}
 
 -- "0,3,0a,ff" with its line feed

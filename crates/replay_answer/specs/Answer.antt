@@ -4,10 +4,10 @@ use mathlib.Core.List.{List, [], _∷_, _++_}
 use Prim.Native.Nat.{ℕ, _≤_}
 use lib.Dec.{eqb}
 use lib.ListN.{length}
-use Rattle.calls.specs.declared.Kind.{Kind}
-use Rattle.calls.specs.declared.Kind.the-variants as kind
+use Rattle.replay_read.specs.declared.calls.Kind.{Kind}
+use Rattle.replay_read.specs.declared.calls.Kind.the-variants as kind
 use Rattle.text.specs.Decimal.{decimalOf, numberText}
-use Rattle.hex_text.specs.Hex.{hexOf}
+use Rattle.text.specs.Hex.{hexOf}
 
 -- A text, or nothing
 abbrev pub textIf : Bool → List ℕ → List ℕ

@@ -4,12 +4,15 @@ ghost use mathlib.Core.List.{_∷_, []};
 ghost use Prim.Native.Nat.{_+_, _*_, _≤_, _<_};
 ghost use lib.ListN.{length};
 ghost use Rattle.text.specs.Decimal.{numberText};
-ghost use Rattle.keys.specs.Put.{Put};
-ghost use Rattle.keys.specs.Octets.{overlay};
+ghost use Rattle.key_traffic.specs.Put.{Put};
+ghost use Rattle.key_traffic.specs.Octets.{overlay};
 ghost use Rattle.replay_answer.specs.Answer.{Room, textIf, commaHex, keysText, sealText, openText, restText, answerText, countsText};
-use calls::Kind;
-use hex_text::hex::put_hex;
+use questions::refusal::DONE;
+use questions::refusal::NO_KEY_FOR_FRAME;
+use replay_read::calls::Kind;
+use text::characters::LINE_FEED;
 use text::decimal::put_decimal;
+use text::hex::put_hex;
 
 // One octet.
 fn put_octet(out: &mut [u8], at: usize, x: u8) -> usize
@@ -58,7 +61,7 @@ fn put_seal(out: &mut [u8], at: usize, number: u8, key: u8, tek: &[u8], vector: 
     ensures { λ r. ⌜ Put (now (out .entry)) at (sealText number key (now (tek .entry)) (now (vector .entry))) r (now (out .exit)) ⌝ }
     ensures { λ r. ⌜ r ≤ at + 87 ⌝ }
 {
-    if number != 0 {
+    if number != DONE {
         return at;
     }
     let a = put_octet(out, at, b',');
@@ -82,8 +85,8 @@ fn put_open(out: &mut [u8], at: usize, number: u8, tek: &[u8], vector: &[u8], se
     ensures { λ r. ⌜ Put (now (out .entry)) at (openText number (now (tek .entry)) (now (vector .entry)) (now (sent .entry))) r (now (out .exit)) ⌝ }
     ensures { λ r. ⌜ r ≤ at + 751 ⌝ }
 {
-    let a = put_keys_if(out, at, number == 0, tek, vector);
-    put_sent(out, a, number == 13, sent)
+    let a = put_keys_if(out, at, number == DONE, tek, vector);
+    put_sent(out, a, number == NO_KEY_FOR_FRAME, sent)
 }
 
 // What follows an answer's number.
@@ -103,11 +106,11 @@ fn put_rest(
 {
     match kind {
         Kind::List => at,
-        Kind::Clock => put_sent(out, at, number == 0, sent),
-        Kind::Established => put_sent(out, at, number == 0, sent),
-        Kind::Reauth => put_sent(out, at, number == 0, sent),
-        Kind::Up => put_sent(out, at, number == 0, sent),
-        Kind::Down => put_sent(out, at, number == 0, sent),
+        Kind::Clock => put_sent(out, at, number == DONE, sent),
+        Kind::Established => put_sent(out, at, number == DONE, sent),
+        Kind::Reauth => put_sent(out, at, number == DONE, sent),
+        Kind::Up => put_sent(out, at, number == DONE, sent),
+        Kind::Down => put_sent(out, at, number == DONE, sent),
         Kind::SealDown => put_seal(out, at, number, key, tek, vector),
         Kind::SealUp => put_seal(out, at, number, key, tek, vector),
         Kind::OpenUp => put_open(out, at, number, tek, vector, sent),
@@ -132,7 +135,7 @@ pub fn put_answer(
 {
     let a = put_decimal(out, 0, number as u64);
     let b = put_rest(out, a, kind, number, key, tek, vector, sent);
-    put_octet(out, b, 10)
+    put_octet(out, b, LINE_FEED)
 }
 
 // A number and the octet after it.
@@ -176,5 +179,5 @@ pub fn put_counts(
     let b = put_number(out, a, head_taken, b',');
     let c = put_number(out, b, head_refused, b',');
     let d = put_number(out, c, modem_taken, b',');
-    put_number(out, d, modem_refused, 10)
+    put_number(out, d, modem_refused, LINE_FEED)
 }

@@ -4,7 +4,7 @@ use mathlib.Core.Bool.{true}
 use mathlib.Core.List.{List}
 use Prim.Native.Nat.{ℕ, _≤_}
 use lib.ListN.{length}
-use Rattle.schedule_text.specs.Schedule.{outputOf}
+use Rattle.schedule_table.specs.Schedule.{outputOf}
 use Rattle.schedule_io.specs.declared.Sent.{Sent}
 
 -- Never more octets than the text has, and all of them where every slice went out

@@ -4,7 +4,7 @@
 ghost use mathlib.Core.Path.{_≡_};
 ghost use Prim.Native.Nat.{_≤_};
 ghost use lib.ListN.{length};
-ghost use Rattle.schedule_text.specs.Schedule.{outputOf};
+ghost use Rattle.schedule_table.specs.Schedule.{outputOf};
 ghost use Rattle.schedule_table.specs.Print.{Steady, startOf, fillOf};
 ghost use Rattle.schedule_io.specs.Sent.{Sends, SendsSome};
 use libc::STDIN_FILENO;
@@ -12,6 +12,9 @@ use libc::STDOUT_FILENO;
 use schedule_table::print::Cursor;
 use schedule_table::print::fill;
 use schedule_table::print::start;
+
+// Octets of the input that decide.
+const INPUT_OCTETS: usize = 128;
 
 // One slice handed to the output: its octets, whether all went out, and the cursor after them.
 struct Turn {
@@ -83,7 +86,7 @@ pub fn print(input: &[u8]) -> Sent
 pub fn run() -> Sent
     ensures { λ r. ⌜ SendsSome r ⌝ }
 {
-    let mut input = [0u8; 128];
+    let mut input = [0u8; INPUT_OCTETS];
     let n = io::read_full(STDIN_FILENO, &mut input);
     print(&input[..n])
 }

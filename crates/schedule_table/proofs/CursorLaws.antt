@@ -9,26 +9,26 @@ use lib.Dec.{leb, eqb}
 use lib.ListN.{length, length-append}
 use lib.Seq.{sets, length-sets}
 use borrow.Author.Tests.{leb-true, le-leb}
-use Rattle.keys.specs.Put.{Put}
-use Rattle.key_numbers.specs.Numbers.{tekNumber, afterOf}
+use Rattle.key_traffic.specs.Put.{Put}
+use Rattle.key_traffic.specs.Numbers.{tekNumber, afterOf}
 use Rattle.questions.specs.Settings.{lifeFits}
-use Rattle.keys.specs.Suites.{widthOf}
-use Rattle.keys.specs.Octets.{overlay}
-use Rattle.key_numbers.specs.declared.numbers.TekNumber.{TekNumber}
+use Rattle.key_traffic.specs.Suites.{widthOf}
+use Rattle.key_traffic.specs.Octets.{overlay}
+use Rattle.key_traffic.specs.declared.numbers.TekNumber.{TekNumber}
 use Rattle.questions.proofs.TestLaws.{both}
-use Rattle.association.specs.declared.record.Assoc.{Assoc}
-use Rattle.association.specs.Mint.{mintOf}
-use Rattle.association.specs.Record.{Rollable}
-use Rattle.association.specs.Listing.{freshOf}
-use Rattle.association.proofs.RollLaws.{roll-one, number-after}
-use Rattle.schedule_text.specs.declared.input.Asked.{Asked}
-use Rattle.schedule_text.specs.declared.input.Input.{Input}
-use Rattle.schedule_text.specs.declared.input.Input.the-variants.{Table}
+use Rattle.key_association.specs.declared.record.Assoc.{Assoc}
+use Rattle.key_association.specs.Mint.{mintOf}
+use Rattle.key_association.specs.Record.{Rollable}
+use Rattle.key_association.specs.Listing.{freshOf}
+use Rattle.key_association.proofs.RollLaws.{roll-one, number-after}
+use Rattle.schedule_table.specs.declared.input.Asked.{Asked}
+use Rattle.schedule_table.specs.declared.input.Input.{Input}
+use Rattle.schedule_table.specs.declared.input.Input.the-variants.{Table}
 use Rattle.schedule_table.specs.declared.print.Cursor.{Cursor}
 use Rattle.schedule_table.specs.declared.print.Printed.{Printed}
-use Rattle.schedule_text.specs.Schedule.{zeros, halfLife, header, askedFits, inputOf}
+use Rattle.schedule_table.specs.Schedule.{zeros, halfLife, header, askedFits, inputOf}
 use Rattle.schedule_table.specs.Print.{Steady, Part, nothingAsked, cursorOf, nextOf, keyRow, newerRow, printedOf, startFor, startOf, partWhen, fillFor, fillOf}
-use Rattle.keys.proofs.StoreLaws.{sets-append, sets-front, then-put, put-as}
+use Rattle.key_traffic.proofs.StoreLaws.{sets-append, sets-front, then-put, put-as}
 
 -- ---- what is asked for, as facts
 pub record Limits (a : Asked) : Type 0 where

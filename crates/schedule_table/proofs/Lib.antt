@@ -1,3 +1,6 @@
+pub mod InputLaws
+pub mod FieldLaws
+pub mod Edges
 -- Laws that belong to no one function.
 pub mod CursorLaws
 pub mod PrintLaws

@@ -9,19 +9,19 @@ use lib.Dec.{leb, eqb, ltb}
 use lib.ListN.{length, take, drop, length-append}
 use lib.Seq.{take-append-seam}
 use borrow.Author.Tests.{lt-ltb, le-ltb, eqb-true, eqb-false}
-use Rattle.keys.specs.Octets.{overlay}
-use Rattle.key_numbers.specs.declared.numbers.TekNumber.{TekNumber}
+use Rattle.key_traffic.specs.Octets.{overlay}
+use Rattle.key_traffic.specs.declared.numbers.TekNumber.{TekNumber}
 use Rattle.text.specs.Decimal.{limit}
 use Rattle.text.proofs.DecimalLaws.{decimal-length-high}
-use Rattle.association.specs.Listing.{freshOf}
-use Rattle.association.specs.Made.{Line, Made, madeAt, pushed, keysMadeFrom}
-use Rattle.schedule_text.specs.declared.input.Asked.{Asked}
-use Rattle.schedule_text.specs.declared.input.Input.{Input}
-use Rattle.schedule_text.specs.declared.input.Input.the-variants.{Table, Refused}
+use Rattle.key_association.specs.Listing.{freshOf}
+use Rattle.key_association.specs.Made.{Generations, Made, madeAt, withMade, keysMadeFrom}
+use Rattle.schedule_table.specs.declared.input.Asked.{Asked}
+use Rattle.schedule_table.specs.declared.input.Input.{Input}
+use Rattle.schedule_table.specs.declared.input.Input.the-variants.{Table, Refused}
 use Rattle.schedule_table.specs.declared.print.Cursor.{Cursor}
-use Rattle.schedule_text.specs.Schedule.{zeros, everyHalf, rowOctets, rowsOf, tableOf, outputFor, outputOf, inputOf}
+use Rattle.schedule_table.specs.Schedule.{zeros, everyHalf, rowOctets, rowsOf, tableOf, outputFor, outputOf, inputOf}
 use Rattle.schedule_table.specs.Print.{Steady, Part, nothingAsked, cursorOf, nextOf, newerRow, startFor, startOf, partWhen, fillFor, fillOf, lineOf, restOf, repeated}
-use Rattle.schedule_text.proofs.InputLaws.{table-is}
+use Rattle.schedule_table.proofs.InputLaws.{table-is}
 use Rattle.schedule_table.proofs.CursorLaws.{first-steady, number-next, deadline-next, next-steady, fill-next, refused-fits}
 
 -- ---- what the clock calls make, one key a call
@@ -32,7 +32,7 @@ pacedRows half t g zero = []
 pacedRows half t g (suc n) = rowOctets (g + 1) ((g + 1) % 16) (t + half) (t + half + half + half) ++ pacedRows half (t + half) (g + 1) n
 
 module _ (half : ℕ) (some : 1 ≤ half) where
-  paced-rows : (n t : ℕ) (l : Line) → l .older .deadline ≡ t + half → l .newer .deadline ≡ t + half + half
+  paced-rows : (n t : ℕ) (l : Generations) → l .older .deadline ≡ t + half → l .newer .deadline ≡ t + half + half
       → rowsOf (keysMadeFrom half (l ∷ []) (everyHalf half t n)) ≡ pacedRows half t (l .newer .generation) n
   unfolding everyHalf rowsOf pacedRows
   paced-rows zero t l older newer = refl
@@ -42,9 +42,9 @@ module _ (half : ℕ) (some : 1 ≤ half) where
       let next : Made = madeAt (l .said) (l .suite) (l .newer .generation + 1) (t + half) (l .newer .deadline + half) zeros 0 in
       let due : l .newer .deadline + half ≡ t + half + half + half = ap (λ (d : ℕ). d + half) newer in
       simp (past, live)
-      (ap (λ (d : ℕ). rowOctets (l .newer .generation + 1) ((l .newer .generation + 1) % 16) (t + half) d ++ rowsOf (keysMadeFrom half (pushed l next ∷ []) (everyHalf half (t + half) n))) due
+      (ap (λ (d : ℕ). rowOctets (l .newer .generation + 1) ((l .newer .generation + 1) % 16) (t + half) d ++ rowsOf (keysMadeFrom half (withMade l next ∷ []) (everyHalf half (t + half) n))) due
       ∙ ap (λ (r : List ℕ). rowOctets (l .newer .generation + 1) ((l .newer .generation + 1) % 16) (t + half) (t + half + half + half) ++ r)
-      (paced-rows n (t + half) (pushed l next) newer due))
+      (paced-rows n (t + half) (withMade l next) newer due))
 
 rest-paced : (c : Cursor) → Steady c → restOf c ≡ pacedRows (c .half) (c .clock) (c .generation) (c .left)
 unfolding restOf

@@ -1,2 +1,3 @@
+pub mod Schedule
 -- What the crate's functions answer and write.
 pub mod Print

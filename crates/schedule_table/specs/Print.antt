@@ -5,17 +5,17 @@ use mathlib.Core.List.{List, [], _∷_, _++_}
 use Prim.Native.Nat.{ℕ, zero, suc, _+_, _-_, _*_, _/_, _≤_}
 use lib.Dec.{leb, eqb}
 use lib.ListN.{length}
-use Rattle.key_numbers.specs.Numbers.{tekNumber}
-use Rattle.keys.specs.declared.traffic.TrafficKey.{TrafficKey}
-use Rattle.association.specs.Listing.{freshOf}
-use Rattle.association.specs.Made.{Made, Line, keysMadeFrom}
-use Rattle.association.specs.Roll.{rolledOf}
-use Rattle.schedule_text.specs.declared.input.Asked.{Asked}
-use Rattle.schedule_text.specs.declared.input.Input.{Input}
-use Rattle.schedule_text.specs.declared.input.Input.the-variants.{Table, Refused}
+use Rattle.key_traffic.specs.Numbers.{tekNumber}
+use Rattle.key_traffic.specs.declared.traffic.TrafficKey.{TrafficKey}
+use Rattle.key_association.specs.Listing.{freshOf}
+use Rattle.key_association.specs.Made.{Made, Generations, keysMadeFrom}
+use Rattle.key_association.specs.Roll.{rolledOf}
+use Rattle.schedule_table.specs.declared.input.Asked.{Asked}
+use Rattle.schedule_table.specs.declared.input.Input.{Input}
+use Rattle.schedule_table.specs.declared.input.Input.the-variants.{Table, Refused}
 use Rattle.schedule_table.specs.declared.print.Cursor.{Cursor}
 use Rattle.schedule_table.specs.declared.print.Printed.{Printed}
-use Rattle.schedule_text.specs.Schedule.{zeros, halfLife, everyHalf, rowOctets, rowsOf, header, inputOf}
+use Rattle.schedule_table.specs.Schedule.{zeros, halfLife, everyHalf, rowOctets, rowsOf, header, inputOf}
 
 -- ---- the cursor
 
@@ -116,7 +116,7 @@ madeOf c generation k =
     }
 
 -- The last two keys made
-abbrev pub lineOf : Cursor → Line
+abbrev pub lineOf : Cursor → Generations
 lineOf c =
     record {
       said = c .held .said;

@@ -3,20 +3,28 @@ ghost use mathlib.Core.Path.{_≡_};
 ghost use mathlib.Core.Bool.{true};
 ghost use Prim.Native.Nat.{_+_, _≤_};
 ghost use lib.ListN.{length};
-ghost use Rattle.keys.specs.Put.{Put};
-ghost use Rattle.keys.specs.Octets.{overlay};
-ghost use Rattle.schedule_text.specs.Schedule.{askedFits};
-ghost use Rattle.schedule_text.specs.declared.input.Input.the-variants.{Table, Refused};
+ghost use Rattle.key_traffic.specs.Put.{Put};
+ghost use Rattle.key_traffic.specs.Octets.{overlay};
+ghost use Rattle.schedule_table.specs.Schedule.{askedFits};
+ghost use Rattle.schedule_table.specs.declared.input.Input.the-variants.{Table, Refused};
 ghost use Rattle.schedule_table.specs.Print.{Steady, cursorOf, nextOf, startFor, startOf, fillOf, printedOf, newerRow};
-use association::listing::Listing;
-use association::listing::listed;
-use association::record::Assoc;
-use rolling::roll::rolled;
-use schedule_text::input::Asked;
-use schedule_text::input::Input;
-use schedule_text::input::read;
-use schedule_text::row::put_header;
-use schedule_text::row::put_row;
+use crate::input::Asked;
+use crate::input::Input;
+use crate::input::read;
+use crate::row::ROW_MAX;
+use crate::row::put_header;
+use crate::row::put_row;
+use key_association::listing::Listing;
+use key_association::listing::listed;
+use key_association::record::Assoc;
+use key_association::roll::rolled;
+use key_traffic::suites::SUITE_AES;
+use key_traffic::traffic::SAID_MATERIAL;
+use questions::limits::TEK_LIFE_MIN;
+use text::characters::LINE_FEED;
+
+// Octets of what a refused input gets: `1` and a line feed.
+const REFUSED_OCTETS: usize = 2;
 
 // Where the table stands: the record as the engine makes it, the generation of its newer key, the second of the last call, and
 // how many clock calls are left.
@@ -43,9 +51,9 @@ fn first_cursor(a: Asked) -> Cursor
     let listing = Listing {
         count: 1,
         saids: [0, 0, 0, 0],
-        suites: [768, 0, 0, 0],
+        suites: [SUITE_AES, 0, 0, 0],
     };
-    let material = [0u8; 64];
+    let material = [0u8; SAID_MATERIAL];
     let held = listed(listing, 0, half, a.from, &material, 0);
     Cursor {
         half: half,
@@ -63,7 +71,7 @@ fn next_cursor(c: Cursor) -> Cursor
 {
     let t = c.clock + c.half;
     let old = c.held;
-    let material = [0u8; 64];
+    let material = [0u8; SAID_MATERIAL];
     let held = rolled(old, c.half, t, &material, 0);
     Cursor {
         half: c.half,
@@ -81,14 +89,14 @@ fn start_refused(out: &mut [u8]) -> Printed
     ensures { λ r. ⌜ now (out .exit) ≡ overlay (now (out .entry)) (startFor Refused .written) ⌝ }
 {
     out[0] = b'1';
-    out[1] = 10;
+    out[1] = LINE_FEED;
     let cursor = first_cursor(Asked {
-        life: 1800,
+        life: TEK_LIFE_MIN,
         from: 0,
         until: 0,
     });
     Printed {
-        count: 2,
+        count: REFUSED_OCTETS,
         cursor: cursor,
     }
 }
@@ -154,7 +162,7 @@ pub fn fill(c: Cursor, out: &mut [u8]) -> Printed
 {
     let mut cursor = c;
     let mut at: usize = 0;
-    while (1 <= cursor.left) & (84 <= out.len() - at) {
+    while (1 <= cursor.left) & (ROW_MAX <= out.len() - at) {
         cursor = next_cursor(cursor);
         at = put_newer(out, at, cursor);
     }

@@ -2,3 +2,5 @@
 pub mod Digits
 pub mod Reading
 pub mod DecimalLaws
+pub mod HexLaws
+pub mod HexBack

@@ -5,6 +5,21 @@ ghost use Prim.Native.Nat.{_+_, _≤_};
 ghost use lib.ListN.{length};
 ghost use lib.Seq.{sets};
 ghost use Rattle.text.specs.Decimal.{isDigit, numberAt, decimalOf, limit, partialOf, appendTo, numberFrom};
+use crate::characters::DIGIT_0;
+use crate::characters::DIGIT_9;
+
+// Digits are in base ten.
+const BASE: u64 = 10;
+
+// A number has 1 to 20 digits.
+const DIGITS_MIN: usize = 1;
+
+const DIGITS_MAX: usize = 20;
+
+// The largest number, and a tenth of it.
+const NUMBER_MAX: u64 = 18446744073709551615;
+
+const NUMBER_TENTH: u64 = 1844674407370955161;
 
 // The digits at a place: `next` is the place after them. Where no number below 2^64 stands there in 1 to 20 digits, `fits`
 // is false and `value` is 0.
@@ -23,7 +38,7 @@ struct Partial {
 fn is_digit(b: u8) -> bool
     ensures { λ r. ⌜ r ≡ isDigit b ⌝ }
 {
-    (48 <= b) & (b <= 57)
+    (DIGIT_0 <= b) & (b <= DIGIT_9)
 }
 
 fn too_large() -> Partial
@@ -45,17 +60,17 @@ fn appended(p: Partial, b: u8) -> Partial
         return too_large();
     }
     let v = p.value;
-    if 1844674407370955161 < v {
+    if NUMBER_TENTH < v {
         return too_large();
     }
-    let digit = (b - 48) as u64;
-    let room = 18446744073709551615 - v * 10;
+    let digit = (b - DIGIT_0) as u64;
+    let room = NUMBER_MAX - v * BASE;
     if room < digit {
         return too_large();
     }
     Partial {
         fits: true,
-        value: v * 10 + digit,
+        value: v * BASE + digit,
     }
 }
 
@@ -63,7 +78,7 @@ fn appended(p: Partial, b: u8) -> Partial
 fn number_from(p: Partial, n: usize, next: usize) -> Number
     ensures { λ r. ⌜ r ≡ numberFrom p n next ⌝ }
 {
-    if p.fits & (1 <= n) & (n <= 20) {
+    if p.fits & (DIGITS_MIN <= n) & (n <= DIGITS_MAX) {
         return Number {
             fits: true,
             value: p.value,
@@ -103,8 +118,8 @@ fn width(n: u64) -> usize
 {
     let mut left = n;
     let mut k: usize = 1;
-    while 10 <= left {
-        left = left / 10;
+    while BASE <= left {
+        left = left / BASE;
         k += 1;
     }
     k
@@ -118,11 +133,11 @@ pub fn put_decimal(out: &mut [u8], at: usize, n: u64) -> usize
     let end = at + width(n);
     let mut i = end;
     let mut left = n;
-    while 10 <= left {
+    while BASE <= left {
         i -= 1;
-        out[i] = 48 + (left % 10) as u8;
-        left = left / 10;
+        out[i] = DIGIT_0 + (left % BASE) as u8;
+        left = left / BASE;
     }
-    out[at] = 48 + left as u8;
+    out[at] = DIGIT_0 + left as u8;
     end
 }

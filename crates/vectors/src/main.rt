@@ -1,17 +1,59 @@
 // Prints whether the messages of document 000's appendix I are read and written as it says: I.4, I.5 and I.6.
-use attributes::octets::part;
 use check::same;
+use key_traffic::suites::SUITE_DES;
+use key_traffic::suites::WIDTH_DES;
 use libc::STDOUT_FILENO;
+use message_attributes::octets::part;
+use message_reader::read::read_alone;
+use message_rules::codes::ANSWER_OCTETS;
+use message_rules::codes::CODE_AUTHORIZATION_REPLY;
+use message_rules::codes::CODE_KEY_REPLY;
+use message_rules::codes::CODE_KEY_REQUEST;
+use message_rules::codes::DIGEST_OCTETS;
+use message_rules::fields::Descriptor;
+use message_rules::fields::Fields;
+use message_rules::fields::KeyOctets;
+use message_rules::fields::Params;
+use message_rules::fields::Place;
+use message_rules::fields::Receiver;
+use message_writer::write::write;
 use questions::refusal::Answer;
+use questions::refusal::DONE;
 use questions::refusal::answer_number;
-use reader::read::read_alone;
-use wire::fields::Descriptor;
-use wire::fields::Fields;
-use wire::fields::KeyOctets;
-use wire::fields::Params;
-use wire::fields::Place;
-use wire::fields::Receiver;
-use writer::write::write;
+
+// What all three messages carry.
+const AK_NUMBER: u8 = 7;
+
+const SAID: u16 = 8800;
+
+// What I.4 carries.
+const I4_IDENTIFIER: u8 = 1;
+
+const I4_LIFE: u64 = 604800;
+
+const I4_DESCRIPTORS: usize = 1;
+
+const I4_SA_TYPE: u8 = 0;
+
+const I4_AUTH_KEY_START: usize = 7;
+
+const I4_AUTH_KEY_OCTETS: usize = 256;
+
+// The Identifier of I.5 and I.6, and where their digests start.
+const KEY_IDENTIFIER: u8 = 115;
+
+const I5_DIGEST_START: usize = 192;
+
+const I6_DIGEST_START: usize = 88;
+
+// The two keys of I.6.
+const I6_OLDER_NUMBER: u8 = 2;
+
+const I6_OLDER_LIFE: u64 = 43200;
+
+const I6_NEWER_NUMBER: u8 = 3;
+
+const I6_NEWER_LIFE: u64 = 86400;
 
 fn say(name: &[u8], what: &[u8], is_so: bool) {
     io::write_all(STDOUT_FILENO, name);
@@ -26,10 +68,10 @@ fn say(name: &[u8], what: &[u8], is_so: bool) {
 // Whether a TEK or a vector has 8 octets, with zeros after them.
 fn has_octets(k: KeyOctets, octets: &[u8]) -> bool {
     let o = k.octets;
-    if k.width != 8 {
+    if k.width != WIDTH_DES {
         return false;
     }
-    same(part(&o, 0, 8), octets) & same(part(&o, 8, 8), b"\0\0\0\0\0\0\0\0")
+    same(part(&o, 0, WIDTH_DES), octets) & same(part(&o, WIDTH_DES, WIDTH_DES), b"\0\0\0\0\0\0\0\0")
 }
 
 fn is_at(p: Place, start: usize, len: usize) -> bool {
@@ -48,10 +90,14 @@ fn is_zero(d: Descriptor) -> bool {
 
 // What every message of these carries, and the error, which none does.
 fn compare_head(name: &[u8], f: Fields, answer: Answer, code: u8, identifier: u8) {
-    say(name, b"answer of the reading", answer_number(answer) == 0);
+    say(
+        name,
+        b"answer of the reading",
+        answer_number(answer) == DONE,
+    );
     say(name, b"code", f.code == code);
     say(name, b"identifier", f.identifier == identifier);
-    say(name, b"authorization key number", f.ak.0 == 7);
+    say(name, b"authorization key number", f.ak.0 == AK_NUMBER);
     say(name, b"error (not carried)", f.error == 0);
 }
 
@@ -82,11 +128,11 @@ fn compare_no_descriptors(name: &[u8], f: Fields) {
 
 // Whether the fields are written as `m`, with zeros for its last `digest` octets.
 fn is_written_again(f: Fields, key: &[u8], m: &[u8], digest: usize) -> bool {
-    let mut out = [0u8; 342];
-    let zeros = [0u8; 20];
+    let mut out = [0u8; ANSWER_OCTETS];
+    let zeros = [0u8; DIGEST_OCTETS];
     let w = write(f, key, &mut out);
     let answer = w.answer;
-    if answer_number(answer) != 0 {
+    if answer_number(answer) != DONE {
         return false;
     }
     let n = m.len();
@@ -106,10 +152,18 @@ fn is_written_again(f: Fields, key: &[u8], m: &[u8], digest: usize) -> bool {
 fn compare_descriptor(name: &[u8], f: Fields) {
     let all = f.descriptors;
     let first = all[0];
-    say(name, b"count of SA-Descriptors", f.count == 1);
-    say(name, b"SAID of the SA-Descriptor", first.said == 8800);
-    say(name, b"SA type of the SA-Descriptor", first.kind == 0);
-    say(name, b"suite of the SA-Descriptor", first.suite == 256);
+    say(name, b"count of SA-Descriptors", f.count == I4_DESCRIPTORS);
+    say(name, b"SAID of the SA-Descriptor", first.said == SAID);
+    say(
+        name,
+        b"SA type of the SA-Descriptor",
+        first.kind == I4_SA_TYPE,
+    );
+    say(
+        name,
+        b"suite of the SA-Descriptor",
+        first.suite == SUITE_DES,
+    );
     say(
         name,
         b"other three SA-Descriptors (not carried)",
@@ -127,12 +181,16 @@ fn authorization_reply(m: &[u8], auth_key: &[u8]) {
     let f = r.fields;
     let key = r.key;
     let digest = r.digest;
-    compare_head(name, f, answer, 5, 1);
-    say(name, b"life", f.life == 604800);
+    compare_head(name, f, answer, CODE_AUTHORIZATION_REPLY, I4_IDENTIFIER);
+    say(name, b"life", f.life == I4_LIFE);
     say(name, b"SAID (not carried)", f.said == 0);
     compare_descriptor(name, f);
     compare_no_params(name, f);
-    say(name, b"AUTH-Key's place", is_at(key, 7, 256));
+    say(
+        name,
+        b"AUTH-Key's place",
+        is_at(key, I4_AUTH_KEY_START, I4_AUTH_KEY_OCTETS),
+    );
     say(
         name,
         b"AUTH-Key",
@@ -148,20 +206,20 @@ fn authorization_reply(m: &[u8], auth_key: &[u8]) {
 
 // What I.5 and I.6 share: Identifier, SAID, and no life and no descriptors.
 fn compare_front(name: &[u8], f: Fields, answer: Answer, code: u8) {
-    compare_head(name, f, answer, code, 115);
+    compare_head(name, f, answer, code, KEY_IDENTIFIER);
     say(name, b"life (not carried)", f.life == 0);
-    say(name, b"SAID", f.said == 8800);
+    say(name, b"SAID", f.said == SAID);
     compare_no_descriptors(name, f);
 }
 
 fn compare_places(name: &[u8], key: Place, digest: Place, at: usize) {
     say(name, b"AUTH-Key's place (not carried)", is_at(key, 0, 0));
-    say(name, b"digest's place", is_at(digest, at, 20));
+    say(name, b"digest's place", is_at(digest, at, DIGEST_OCTETS));
 }
 
 // I.5. `m` has its octets. In this copy letters stand for digits: Cyrillic ones in ca, a6 and e6, and l for the 1 of the digest's a1.
-// Two rows are run together as "b2 00 79 01 90 ..": taken as b2 79 90 .. 03 01, then 00 01. Of the digest's row the type, the
-// length and the last three octets are lost: taken from I.5.1. The public key's modulus begins with e0 once in this copy and twice in
+// Two rows are run together as "b2 00 79 01 90 ..": taken as b2 79 90 .. 03 01, then 00 01. Of the digest's row 0b, 14, f5 and
+// 9e are lost and 22 stands in front: its 20 octets are taken from I.5.1. The public key's modulus begins with e0 once in this copy and twice in
 // the input of I.5.1: taken as twice, as its length of 140 asks, and the digest that I.5.1 gives is that of these octets.
 // `standard` is the message without its CM-Identification, which the writer does not write.
 fn key_request(m: &[u8], standard: &[u8]) {
@@ -171,13 +229,13 @@ fn key_request(m: &[u8], standard: &[u8]) {
     let f = r.fields;
     let key = r.key;
     let digest = r.digest;
-    compare_front(name, f, answer, 7);
+    compare_front(name, f, answer, CODE_KEY_REQUEST);
     compare_no_params(name, f);
-    compare_places(name, key, digest, 192);
+    compare_places(name, key, digest, I5_DIGEST_START);
     say(
         name,
         b"message written again (without CM-Identification, digest zeroed)",
-        is_written_again(f, b"", standard, 20),
+        is_written_again(f, b"", standard, DIGEST_OCTETS),
     );
 }
 
@@ -185,8 +243,8 @@ fn compare_older(p: Params) {
     compare_params(
         b"I.6 Key Reply: older ",
         p,
-        2,
-        43200,
+        I6_OLDER_NUMBER,
+        I6_OLDER_LIFE,
         b"\xb6\x4d\x54\x8c\x3f\x6b\x25\x69",
         b"\x81\x0e\x52\x8e\x1c\x5f\xda\x1a",
     );
@@ -196,8 +254,8 @@ fn compare_newer(p: Params) {
     compare_params(
         b"I.6 Key Reply: newer ",
         p,
-        3,
-        86400,
+        I6_NEWER_NUMBER,
+        I6_NEWER_LIFE,
         b"\x5e\xbd\x03\xaa\x5e\xd5\xe2\x94",
         b"\x25\x35\x67\xc3\x09\x21\x8c\x2c",
     );
@@ -213,14 +271,14 @@ fn key_reply(m: &[u8]) {
     let digest = r.digest;
     let older = f.older;
     let newer = f.newer;
-    compare_front(name, f, answer, 8);
+    compare_front(name, f, answer, CODE_KEY_REPLY);
     compare_older(older);
     compare_newer(newer);
-    compare_places(name, key, digest, 88);
+    compare_places(name, key, digest, I6_DIGEST_START);
     say(
         name,
         b"message written again (digest zeroed)",
-        is_written_again(f, b"", m, 20),
+        is_written_again(f, b"", m, DIGEST_OCTETS),
     );
 }
 

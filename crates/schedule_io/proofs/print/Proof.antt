@@ -11,7 +11,7 @@ use borrow.Author.Tests.{leb-true, le-leb}
 use borrow.Author.Needs.{needs}
 use Rattle.questions.proofs.TestLaws.{both}
 use Rattle.schedule_table.specs.declared.print.Cursor.{Cursor}
-use Rattle.schedule_text.specs.Schedule.{outputOf}
+use Rattle.schedule_table.specs.Schedule.{outputOf}
 use Rattle.schedule_table.specs.Print.{Steady, startOf, fillOf, restOf}
 use Rattle.schedule_table.proofs.PrintLaws.{after-start, start-steady, after-fill, fill-steady, fill-lowers, rest-most, none-left}
 use Rattle.schedule_io.proofs.print.Statement.{statement}

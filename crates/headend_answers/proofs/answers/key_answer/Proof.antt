@@ -1,6 +1,6 @@
 -- `headend_answers::answers::key_answer` meets its contract.
 use mathlib.Core.Path.{_≡_, sym, _∙_}
-use Rattle.answer_fields.specs.AnswerFields.{invalid}
+use Rattle.headend_answers.specs.AnswerFields.{invalid}
 use borrow.Author.Tests.{not-true, not-false}
 use Rattle.headend_answers.proofs.AnswersLaws.{key-unlisted, key-inactive, key-digest, key-foreign, key-granted}
 use borrow.Author.Needs.{needs}

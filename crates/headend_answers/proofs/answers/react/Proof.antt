@@ -1,7 +1,7 @@
 -- `headend_answers::answers::react` meets its contract.
 use mathlib.Core.Path.{sym, _∙_, ap}
 use native.Mathlib.Omega.{arith}
-use Rattle.wire.specs.declared.fields.Fields.{Fields}
+use Rattle.message_rules.specs.declared.fields.Fields.{Fields}
 use Rattle.headend_answers.proofs.AnswersLaws.{react-request, react-key, react-none}
 use borrow.Author.Tests.{eq-eqb, ne-eqb}
 use borrow.Author.Needs.{needs}

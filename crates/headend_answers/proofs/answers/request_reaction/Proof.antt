@@ -2,7 +2,7 @@
 use mathlib.Core.Path.{sym, _∙_, ap}
 use borrow.Author.Tests.{not-true, not-false}
 use borrow.Author.Tests.{eq-eqb, ne-eqb}
-use Rattle.wire.specs.declared.fields.Fields.{Fields}
+use Rattle.message_rules.specs.declared.fields.Fields.{Fields}
 use Rattle.headend_answers.proofs.AnswersLaws.{request-unlisted, request-barred, request-allowed}
 use borrow.Author.Needs.{needs}
 use Rattle.headend_answers.proofs.answers.request_reaction.Statement.{statement}

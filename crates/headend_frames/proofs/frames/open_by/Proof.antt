@@ -12,7 +12,7 @@ counted-requires : tie.Need-counted-requires
 counted-requires c κs = search needs
 
 put-invalid-requires : tie.Need-put-invalid-requires
-put-invalid-requires c κs = c .before .before .before .before .before .before .before .pre .told (sym (c .before .before .before .answer-number .ensures) ∙ c .before .if1 .taken)
+put-invalid-requires c κs = c .before .before .before .before .before .before .before .pre .invalid-fits (sym (c .before .before .before .answer-number .ensures) ∙ c .before .if1 .taken)
 
 opened-call-requires : tie.Need-opened-call-requires
 opened-call-requires c κs = search needs

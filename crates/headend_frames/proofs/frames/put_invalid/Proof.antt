@@ -5,11 +5,11 @@ use Prim.Native.Nat.{ℕ, _≤_, _<_}
 use native.Mathlib.Omega.{arith}
 use lib.ListN.{length}
 use borrow.Author.Needs.{needs}
-use Rattle.key_numbers.specs.declared.numbers.AkNumber.{AkNumber}
-use Rattle.keys.specs.Octets.{overlay}
-use Rattle.wire.specs.declared.fields.Fields.{Fields}
+use Rattle.key_traffic.specs.declared.numbers.AkNumber.{AkNumber}
+use Rattle.key_traffic.specs.Octets.{overlay}
+use Rattle.message_rules.specs.declared.fields.Fields.{Fields}
 use Rattle.headend_steps.specs.Receive.{Writable}
-use Rattle.answer_fields.specs.AnswerFields.{errorAnswer}
+use Rattle.headend_answers.specs.AnswerFields.{errorAnswer}
 use Rattle.headend_frames.proofs.FrameCallLaws.{tek-invalid-writable, none-invalid, one-invalid}
 use Rattle.headend_frames.proofs.frames.put_invalid.Statement.{statement}
 use Rattle.headend_frames.proofs.frames.put_invalid.Tie as tie

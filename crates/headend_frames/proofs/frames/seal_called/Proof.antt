@@ -3,7 +3,7 @@ use mathlib.Core.Path.{sym, _∙_}
 use lib.ListN.{length}
 use borrow.Author.Tests.{not-true, not-false}
 use borrow.Author.Needs.{needs}
-use Rattle.keys.specs.Suites.{widthOf}
+use Rattle.key_traffic.specs.Suites.{widthOf}
 use Rattle.questions.proofs.AnswerLaws.{is-done}
 use Rattle.headend_frames.specs.Frames.{sealedWith}
 use Rattle.headend_frames.proofs.FrameCallLaws.{seal-room, seal-refused, seal-done}

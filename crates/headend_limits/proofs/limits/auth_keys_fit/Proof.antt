@@ -10,8 +10,8 @@ ak-in-range-requires c κs = search needs
 is-within-requires : tie.Need-is-within-requires
 is-within-requires c κs = search needs
 
-later-requires : tie.Need-later-requires
-later-requires c κs = search needs
+maximum-requires : tie.Need-maximum-requires
+maximum-requires c κs = search needs
 
 is-within-requires-2 : tie.Need-is-within-requires-2
 is-within-requires-2 c κs = search needs
@@ -23,4 +23,4 @@ returns c = cc
 pub auth-keys-fit-spec : {M : Type 1} → statement M
 auth-keys-fit-spec =
     tie.close
-    (tie.spec ak-in-range-requires is-within-requires later-requires is-within-requires-2 returns)
+    (tie.spec ak-in-range-requires is-within-requires maximum-requires is-within-requires-2 returns)

@@ -2,7 +2,7 @@
 use mathlib.Core.Path.{_∙_, ap}
 use Prim.Native.Nat.{_+_}
 use native.Mathlib.Omega.{arith}
-use Rattle.key_numbers.specs.declared.numbers.AkNumber.{AkNumber}
+use Rattle.key_traffic.specs.declared.numbers.AkNumber.{AkNumber}
 use Rattle.headend_state.proofs.AuthorizationLaws.{two-active, one-active, none-active}
 use borrow.Author.Needs.{needs}
 use Rattle.headend_state.proofs.authorization.granted.Statement.{statement}

@@ -1,7 +1,7 @@
 -- `headend_state::authorization::is_active` meets its contract.
 use mathlib.Core.Path.{_∙_, ap}
-use Rattle.key_numbers.specs.Numbers.{sameAk}
-use Rattle.key_numbers.specs.declared.numbers.AkNumber.{AkNumber}
+use Rattle.key_traffic.specs.Numbers.{sameAk}
+use Rattle.key_traffic.specs.declared.numbers.AkNumber.{AkNumber}
 use Rattle.headend_state.proofs.AuthorizationLaws.{active-by}
 use borrow.Author.Needs.{needs}
 use Rattle.headend_state.proofs.authorization.is_active.Statement.{statement}

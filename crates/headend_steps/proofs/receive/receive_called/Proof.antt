@@ -7,10 +7,10 @@ use lib.ListN.{length}
 use borrow.Author.Tests.{not-true, not-false}
 use borrow.Author.Needs.{needs}
 use Rattle.questions.specs.declared.refusal.Answer.{Answer}
-use Rattle.keys.specs.Octets.{overlay}
+use Rattle.key_traffic.specs.Octets.{overlay}
 use Rattle.questions.proofs.AnswerLaws.{is-done}
-use Rattle.association.specs.declared.search.Found.{Found}
-use Rattle.wire.specs.declared.fields.Reading.{Reading}
+use Rattle.key_association.specs.declared.search.Found.{Found}
+use Rattle.message_rules.specs.declared.fields.Reading.{Reading}
 use Rattle.headend_state.specs.declared.state.HeadEnd.{HeadEnd}
 use Rattle.headend_state.specs.declared.entries.Known.{Known}
 use Rattle.headend_answers.specs.declared.answers.Reaction.{Reaction}

@@ -3,8 +3,8 @@ use mathlib.Core.Path.{_≡_, ap, _∙_}
 use mathlib.Core.Bool.{Bool, _&&_, _||_, not}
 use Prim.Native.Nat.{ℕ}
 use lib.Dec.{leb, eqb}
-use Rattle.association.specs.declared.search.Found.{Found}
-use Rattle.wire.specs.declared.fields.Fields.{Fields}
+use Rattle.key_association.specs.declared.search.Found.{Found}
+use Rattle.message_rules.specs.declared.fields.Fields.{Fields}
 use Rattle.headend_state.specs.declared.state.HeadEnd.{HeadEnd}
 use Rattle.headend_state.specs.declared.entries.Known.{Known}
 use Rattle.headend_limits.specs.Search.{foundSuits}

@@ -1,9 +1,9 @@
 -- `modem_frames::frames::missing` meets its contract.
-use Rattle.modem_frames.proofs.FrameCalledLaws.{told-slot, told-out, missing-done}
-use Rattle.modem.proofs.AnswerLaws.{out-there}
-use Rattle.modem.proofs.AskedLaws.{fits-ready}
+use Rattle.modem_frames.proofs.FrameCalledLaws.{deliver-slot, deliver-out, missing-done}
+use Rattle.modem_calls.proofs.AnswerLaws.{out-there}
+use Rattle.modem_calls.proofs.AskedLaws.{fits-ready}
 use Rattle.modem_steps.proofs.ReadyLaws.{started-ready}
-use Rattle.modem_steps.specs.Slots.{slotOfSaid, told}
+use Rattle.modem_steps.specs.Slots.{slotOfSaid, deliver}
 use Rattle.modem_steps.specs.State.{starting}
 use borrow.Author.Tests.{ltb-true}
 use native.Mathlib.Omega.{arith}
@@ -17,8 +17,8 @@ slot-of-said-requires c κs = search needs
 start-requires : tie.Need-start-requires
 start-requires c κs = search needs
 
-told-requires : tie.Need-told-requires
-told-requires c κs =
+deliver-requires : tie.Need-deliver-requires
+deliver-requires c κs =
     let x = c .before .before .before .args in (
       omega (arith, c .before .slot-of-said .ensures .0, ltb-true (slotOfSaid (x .m) (x .said)) 4 (c .before .before .before .pre .1 .0)),
       started-ready (x .m) (c .start .result) (c .start .ensures) (fits-ready (x .m) (c .before .before .before .pre .0)),
@@ -27,8 +27,8 @@ told-requires c κs =
 put-out-requires : tie.Need-put-out-requires
 put-out-requires c κs =
     let x = c .before .before .before .before .before .before .before .args in
-    let is = told-slot (x .m) (x .said) (c .before .before .before .before .start .result) (c .before .before .before .told .result) (c .before .before .before .before .before .slot-of-said .result) (c .before .before .before .before .start .ensures) (c .before .before .before .before .before .slot-of-said .ensures .0) (c .before .before .before .told .ensures .0) in
-    (out-there (c .before .before .before .told .result) (told (starting (x .m)) (slotOfSaid (x .m) (x .said)) 5) is (told-out (x .m) (x .said) (c .before .before .before .before .before .before .before .pre .0) (c .before .before .before .before .before .before .before .pre .1 .0)), c .before .before .before .before .before .before .before .pre .1 .1)
+    let is = deliver-slot (x .m) (x .said) (c .before .before .before .before .start .result) (c .before .before .before .deliver .result) (c .before .before .before .before .before .slot-of-said .result) (c .before .before .before .before .start .ensures) (c .before .before .before .before .before .slot-of-said .ensures .0) (c .before .before .before .deliver .ensures .0) in
+    (out-there (c .before .before .before .deliver .result) (deliver (starting (x .m)) (slotOfSaid (x .m) (x .said)) 5) is (deliver-out (x .m) (x .said) (c .before .before .before .before .before .before .before .pre .0) (c .before .before .before .before .before .before .before .pre .1 .0)), c .before .before .before .before .before .before .before .pre .1 .1)
 
 counted-requires : tie.Need-counted-requires
 counted-requires c κs = search needs
@@ -42,8 +42,8 @@ same-length c = search needs
 returns : tie.Need-returns
 returns c =
     let x = c .before .before .before .before .before .before .before .before .before .before .before .before .args in
-    let is = told-slot (x .m) (x .said) (c .before .before .before .before .before .before .before .before .before .start .result) (c .before .before .before .before .before .before .before .before .told .result) (c .before .before .before .before .before .before .before .before .before .before .slot-of-said .result) (c .before .before .before .before .before .before .before .before .before .start .ensures) (c .before .before .before .before .before .before .before .before .before .before .slot-of-said .ensures .0) (c .before .before .before .before .before .before .before .before .told .ensures .0) in
-    missing-done (x .m) (x .said) (x .a) (x .out .now) (c .before .before .before .before .before .before .before .before .told .result) (c .before .counted .result) (c .before .before .before .before .put-out .result) (c .opened-call .result) _ is (c .before .counted .ensures) (c .before .before .before .before .put-out .ensures .1) (c .opened-call .ensures) (c .before .before .before .before .put-out .ensures .0)
+    let is = deliver-slot (x .m) (x .said) (c .before .before .before .before .before .before .before .before .before .start .result) (c .before .before .before .before .before .before .before .before .deliver .result) (c .before .before .before .before .before .before .before .before .before .before .slot-of-said .result) (c .before .before .before .before .before .before .before .before .before .start .ensures) (c .before .before .before .before .before .before .before .before .before .before .slot-of-said .ensures .0) (c .before .before .before .before .before .before .before .before .deliver .ensures .0) in
+    missing-done (x .m) (x .said) (x .a) (x .out .now) (c .before .before .before .before .before .before .before .before .deliver .result) (c .before .counted .result) (c .before .before .before .before .put-out .result) (c .opened-call .result) _ is (c .before .counted .ensures) (c .before .before .before .before .put-out .ensures .1) (c .opened-call .ensures) (c .before .before .before .before .put-out .ensures .0)
 
 pub missing-spec : {M : Type 1} → statement M
 missing-spec =
@@ -51,7 +51,7 @@ missing-spec =
     (tie.spec
     slot-of-said-requires
     start-requires
-    told-requires
+    deliver-requires
     put-out-requires
     counted-requires
     opened-call-requires

@@ -1,5 +1,5 @@
 -- `modem_limits::limits::key_zero` meets its contract.
-use Rattle.keys.specs.Octets.{zeroPast}
+use Rattle.key_traffic.specs.Octets.{zeroPast}
 use Rattle.modem_limits.specs.Limits.{keyZero}
 use borrow.Author.Needs.{needs}
 use Rattle.modem_limits.proofs.limits.key_zero.Statement.{statement}

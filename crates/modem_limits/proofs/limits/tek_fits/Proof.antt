@@ -1,7 +1,7 @@
 -- `modem_limits::limits::tek_fits` meets its contract.
 use Rattle.modem_limits.specs.Limits.{pairHeldFits, tekFits}
-use Rattle.keys.specs.Suites.{widthOf}
-use Rattle.machines.specs.Transitions.{D}
+use Rattle.key_traffic.specs.Suites.{widthOf}
+use Rattle.modem_transitions.specs.Transitions.{D}
 use mathlib.Core.Path.{_≡_, refl}
 use lib.Dec.{leb}
 use borrow.Author.Needs.{needs}

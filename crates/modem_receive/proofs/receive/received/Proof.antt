@@ -1,5 +1,5 @@
 -- `modem_receive::receive::received` meets its contract.
-use Rattle.modem_receive.proofs.ReceiveLaws.{told-there, replied-there}
+use Rattle.modem_receive.proofs.ReceiveLaws.{deliver-there, replied-there}
 use Rattle.modem_steps.specs.Slots.{slotOfSaid}
 use Prim.Native.Nat.{_<_}
 use Rattle.modem_receive.proofs.ReceiveLaws.{received-5, received-6, received-8, received-9, received-10, received-11}
@@ -22,8 +22,8 @@ rejected-requires c κs = search needs
 start-requires : tie.Need-start-requires
 start-requires c κs = search needs
 
-told-reply-requires : tie.Need-told-reply-requires
-told-reply-requires c κs = let a = c .before .before .before .before .before .args in
+deliver-reply-requires : tie.Need-deliver-reply-requires
+deliver-reply-requires c κs = let a = c .before .before .before .before .before .args in
     let is : a .f .code ≡ 8 = c .before .before .before .match .keys3 in
     let known : slotOfSaid (a .m) (a .f .said) < 4 = c .before .before .before .before .before .pre .1 .known (λ e. omega (arith, e, is)) (λ e. omega (arith, e, is)) (λ e. omega (arith, e, is)) in
     (omega (arith, known, c .before .before .before .before .slot-of-said .ensures .0), (started-ready (a .m) (c .start .result) (c .start .ensures) (c .before .before .before .before .before .pre .0), (c .before .before .before .before .before .pre .1 .older-small, c .before .before .before .before .before .pre .1 .newer-small)))
@@ -31,8 +31,8 @@ told-reply-requires c κs = let a = c .before .before .before .before .before .a
 start-requires-2 : tie.Need-start-requires-2
 start-requires-2 c κs = search needs
 
-told-requires : tie.Need-told-requires
-told-requires c κs = let a = c .before .before .before .args in
+deliver-requires : tie.Need-deliver-requires
+deliver-requires c κs = let a = c .before .before .before .args in
     let is : a .f .code ≡ 9 = c .before .match .keys4 in
     let known : slotOfSaid (a .m) (a .f .said) < 4 = c .before .before .before .pre .1 .known (λ e. omega (arith, e, is)) (λ e. omega (arith, e, is)) (λ e. omega (arith, e, is)) in
     (omega (arith, known, c .before .before .slot-of-said .ensures .0), started-ready (a .m) (c .start2 .result) (c .start2 .ensures) (c .before .before .before .pre .0))
@@ -43,8 +43,8 @@ invalidated-requires c κs = search needs
 start-requires-3 : tie.Need-start-requires-3
 start-requires-3 c κs = search needs
 
-told-requires-2 : tie.Need-told-requires-2
-told-requires-2 c κs = let a = c .before .before .before .args in
+deliver-requires-2 : tie.Need-deliver-requires-2
+deliver-requires-2 c κs = let a = c .before .before .before .args in
     let other = c .before .match .rest in
     let known : slotOfSaid (a .m) (a .f .said) < 4 = c .before .before .before .pre .1 .known (other .0 .0 .0 .0 .1) (other .0 .0 .0 .1) (other .1) in
     (omega (arith, known, c .before .before .slot-of-said .ensures .0), started-ready (a .m) (c .start3 .result) (c .start3 .ensures) (c .before .before .before .pre .0))
@@ -60,13 +60,13 @@ returns-2 c = let a = c .before .before .before .args in
 returns-3 : tie.Need-returns-3
 returns-3 c = let a = c .before .before .before .before .before .before .args in
     let is : a .f .code ≡ 8 = c .before .before .before .before .match .keys3 in
-    replied-there (a .m) (a .f) (c .before .start .result) (c .before .before .before .before .before .slot-of-said .result) (c .told-reply .result) (c .before .start .ensures) (c .before .before .before .before .before .slot-of-said .ensures .0) (c .told-reply .ensures .0)
+    replied-there (a .m) (a .f) (c .before .start .result) (c .before .before .before .before .before .slot-of-said .result) (c .deliver-reply .result) (c .before .start .ensures) (c .before .before .before .before .before .slot-of-said .ensures .0) (c .deliver-reply .ensures .0)
     ∙ received-8 (a .m) (a .f) (λ e. omega (arith, e, is)) (λ e. omega (arith, e, is)) is
 
 returns-4 : tie.Need-returns-4
 returns-4 c = let a = c .before .before .before .before .args in
     let is : a .f .code ≡ 9 = c .before .before .match .keys4 in
-    told-there (a .m) (a .f) (c .before .start2 .result) (c .before .before .before .slot-of-said .result) (c .told .result) (c .before .start2 .ensures) (c .before .before .before .slot-of-said .ensures .0) 9 (c .told .ensures .0)
+    deliver-there (a .m) (a .f) (c .before .start2 .result) (c .before .before .before .slot-of-said .result) (c .deliver .result) (c .before .start2 .ensures) (c .before .before .before .slot-of-said .ensures .0) 9 (c .deliver .ensures .0)
     ∙ received-9 (a .m) (a .f) (λ e. omega (arith, e, is)) (λ e. omega (arith, e, is)) (λ e. omega (arith, e, is)) is
 
 returns-5 : tie.Need-returns-5
@@ -77,7 +77,7 @@ returns-5 c = let a = c .before .before .before .args in
 returns-6 : tie.Need-returns-6
 returns-6 c = let a = c .before .before .before .before .args in
     let other = c .before .before .match .rest in
-    told-there (a .m) (a .f) (c .before .start3 .result) (c .before .before .before .slot-of-said .result) (c .told2 .result) (c .before .start3 .ensures) (c .before .before .before .slot-of-said .ensures .0) 5 (c .told2 .ensures .0)
+    deliver-there (a .m) (a .f) (c .before .start3 .result) (c .before .before .before .slot-of-said .result) (c .deliver2 .result) (c .before .start3 .ensures) (c .before .before .before .slot-of-said .ensures .0) 5 (c .deliver2 .ensures .0)
     ∙ received-11 (a .m) (a .f) (other .0 .0 .0 .0 .1) (other .0 .0 .0 .1) (other .0 .0 .1) (other .0 .1) (other .1)
 
 pub received-spec : {M : Type 1} → statement M
@@ -88,12 +88,12 @@ received-spec =
     replied-requires
     rejected-requires
     start-requires
-    told-reply-requires
+    deliver-reply-requires
     start-requires-2
-    told-requires
+    deliver-requires
     invalidated-requires
     start-requires-3
-    told-requires-2
+    deliver-requires-2
     returns
     returns-2
     returns-3

@@ -18,8 +18,8 @@ element-set-from-machine c = search needs
 add-m : tie.Need-add-m
 add-m c = search needs
 
-push-requires : tie.Need-push-requires
-push-requires c κs = search needs
+with-message-requires : tie.Need-with-message-requires
+with-message-requires c κs = search needs
 
 returns-2 : tie.Need-returns-2
 unfolding appended
@@ -27,4 +27,4 @@ returns-2 c = (simp (lt-leb _ _ (c .before .before .before .before .if1 .left)) 
 
 pub appended-spec : {M : Type 1} → statement M
 appended-spec =
-    tie.close (tie.spec returns mul-machine element-set-from-machine add-m push-requires returns-2)
+    tie.close (tie.spec returns mul-machine element-set-from-machine add-m with-message-requires returns-2)

@@ -10,14 +10,14 @@ returns : tie.Need-returns
 unfolding keptIf
 returns c = (simp (not-true (c .before .args .goes) (c .if1 .taken)), c .before .pre)
 
-tek-moment-requires : tie.Need-tek-moment-requires
-tek-moment-requires c κs = search needs
+tek-context-requires : tie.Need-tek-context-requires
+tek-context-requires c κs = search needs
 
 no-params-requires : tie.Need-no-params-requires
 no-params-requires c κs = search needs
 
 step-requires : tie.Need-step-requires
-step-requires c κs = tek-ready (c .before .before .before .before .args .w .modem) (c .before .tek-moment .result) (c .no-params .result) (c .no-params .result) (c .before .tek-moment .ensures) (c .before .before .before .before .pre) (none-short _ (c .no-params .ensures)) (none-short _ (c .no-params .ensures))
+step-requires c κs = tek-ready (c .before .before .before .before .args .w .modem) (c .before .tek-context .result) (c .no-params .result) (c .no-params .result) (c .before .tek-context .ensures) (c .before .before .before .before .pre) (none-short _ (c .no-params .ensures)) (none-short _ (c .no-params .ensures))
 
 appended-requires : tie.Need-appended-requires
 appended-requires c κs = search needs
@@ -31,7 +31,7 @@ kept-if-spec =
     tie.close
     (tie.spec
     returns
-    tek-moment-requires
+    tek-context-requires
     no-params-requires
     step-requires
     appended-requires

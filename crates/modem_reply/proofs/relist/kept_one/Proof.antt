@@ -10,8 +10,8 @@ mul-t c = search needs
 element-copy-out-t : tie.Need-element-copy-out-t
 element-copy-out-t c = search needs
 
-goes-on-requires : tie.Need-goes-on-requires
-goes-on-requires c κs = search needs
+survives-requires : tie.Need-survives-requires
+survives-requires c κs = search needs
 
 kept-if-requires : tie.Need-kept-if-requires
 kept-if-requires c κs = search needs
@@ -22,4 +22,4 @@ returns c = (cc, c .kept-if .ensures .1)
 
 pub kept-one-spec : {M : Type 1} → statement M
 kept-one-spec =
-    tie.close (tie.spec mul-t element-copy-out-t goes-on-requires kept-if-requires returns)
+    tie.close (tie.spec mul-t element-copy-out-t survives-requires kept-if-requires returns)

@@ -10,8 +10,8 @@ returns : tie.Need-returns
 unfolding startedIf
 returns c = (simp (not-true (c .before .args .new) (c .if1 .taken)), c .before .pre)
 
-tek-moment-requires : tie.Need-tek-moment-requires
-tek-moment-requires c κs = search needs
+tek-context-requires : tie.Need-tek-context-requires
+tek-context-requires c κs = search needs
 
 no-params-requires : tie.Need-no-params-requires
 no-params-requires c κs = search needs
@@ -20,7 +20,7 @@ fresh-tek-requires : tie.Need-fresh-tek-requires
 fresh-tek-requires c κs = search needs
 
 step-requires : tie.Need-step-requires
-step-requires c κs = tek-ready (c .before .before .before .before .before .args .w .modem) (c .before .before .tek-moment .result) (c .before .no-params .result) (c .before .no-params .result) (c .before .before .tek-moment .ensures) (c .before .before .before .before .before .pre) (none-short _ (c .before .no-params .ensures)) (none-short _ (c .before .no-params .ensures))
+step-requires c κs = tek-ready (c .before .before .before .before .before .args .w .modem) (c .before .before .tek-context .result) (c .before .no-params .result) (c .before .no-params .result) (c .before .before .tek-context .ensures) (c .before .before .before .before .before .pre) (none-short _ (c .before .no-params .ensures)) (none-short _ (c .before .no-params .ensures))
 
 appended-requires : tie.Need-appended-requires
 appended-requires c κs = search needs
@@ -34,7 +34,7 @@ started-if-spec =
     tie.close
     (tie.spec
     returns
-    tek-moment-requires
+    tek-context-requires
     no-params-requires
     fresh-tek-requires
     step-requires

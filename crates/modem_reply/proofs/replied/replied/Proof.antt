@@ -9,8 +9,8 @@ use Rattle.modem_reply.proofs.replied.replied.Tie as tie
 start-requires : tie.Need-start-requires
 start-requires c κs = search needs
 
-auth-told-requires : tie.Need-auth-told-requires
-auth-told-requires c κs = (started-ready (c .before .before .before .args .m) (c .start .result) (c .start .ensures) (c .before .before .before .pre .0), c .before .before .before .pre .1)
+deliver-auth-requires : tie.Need-deliver-auth-requires
+deliver-auth-requires c κs = (started-ready (c .before .before .before .args .m) (c .start .result) (c .start .ensures) (c .before .before .before .pre .0), c .before .before .before .pre .1)
 
 relisted-requires : tie.Need-relisted-requires
 relisted-requires c κs = search needs
@@ -31,7 +31,7 @@ replied-spec =
     tie.close
     (tie.spec
     start-requires
-    auth-told-requires
+    deliver-auth-requires
     relisted-requires
     returns
     listed-anew-requires

@@ -1,6 +1,6 @@
 -- `replay::line::take_call` meets its contract.
 use mathlib.Core.Path.{ap}
-use Rattle.replay_start.specs.declared.start.Stage.the-variants.{Running}
+use Rattle.replay.specs.declared.start.Stage.the-variants.{Running}
 use borrow.Author.Needs.{needs}
 use Rattle.replay.proofs.line.take_call.Statement.{statement}
 use Rattle.replay.proofs.line.take_call.Tie as tie
@@ -14,9 +14,9 @@ same-length c = search needs
 returns : tie.Need-returns
 returns c = record {
   run = ap (λ y. record { stage = Running; settings = c .before .before .before .before .before .before .before .before .before .args .s .settings; ends = y }) (c .before .before .before .turn .ensures .0 .0);
-  count = c .before .before .before .turn .ensures .0 .1 .0;
+  count = c .before .before .before .turn .ensures .0 .1;
   short = c .before .before .before .turn .ensures .1;
-  written = c .before .before .before .turn .ensures .0 .1 .1;
+  written = c .before .before .before .turn .ensures .0 .2;
 }
 
 pub take-call-spec : {M : Type 1} → statement M

@@ -1,6 +1,6 @@
 -- `replay::line::take_line` meets its contract.
-use Rattle.replay_start.specs.declared.start.Stage.the-variants.{SettingsNames, SettingsValues, ModemNames, ModemValues, Running, Stopped}
-use Rattle.replay_start.proofs.LineLaws.{taken-at, taken-none}
+use Rattle.replay.specs.declared.start.Stage.the-variants.{SettingsNames, SettingsValues, ModemNames, ModemValues, Running, Stopped}
+use Rattle.replay.proofs.LineLaws.{taken-at, taken-none}
 use borrow.Author.Needs.{needs}
 use Rattle.replay.proofs.line.take_line.Statement.{statement}
 use Rattle.replay.proofs.line.take_line.Tie as tie

@@ -27,14 +27,14 @@ same-length-2 c = search needs
 returns-2 : tie.Need-returns-2
 returns-2 c = (says-none (c .before .before .before .before .before .before .before .before .before .before .args .e) (c .before .before .before .before .before .before .before .before .before .before .args .line .now) _ _ _ (c .before .before .before .before .before .before .read-call .result) _ (c .before .before .before .before .before .before .read-call .ensures) (not-true _ (c .before .before .before .before .if2 .taken)) (c .before .before .no-call2 .ensures .0) (c .before .before .no-call2 .ensures .1), rw (c .before .before .no-call2 .ensures .0) (omega arith))
 
-told-line-requires : tie.Need-told-line-requires
-told-line-requires c κs = search needs
+call-line-requires : tie.Need-call-line-requires
+call-line-requires c κs = search needs
 
 same-length-3 : tie.Need-same-length-3
 same-length-3 c = search needs
 
 returns-3 : tie.Need-returns-3
-returns-3 c = (says-call (c .before .before .before .before .before .before .before .before .before .before .before .before .before .args .e) (c .before .before .before .before .before .before .before .before .before .before .before .before .before .args .line .now) _ _ _ (c .before .before .before .before .before .before .before .before .before .read-call .result) _ (c .before .before .before .before .before .before .before .before .before .read-call .ensures) (not-false _ (c .before .before .before .before .before .before .before .if2 .left)) (c .before .before .told-line .ensures .0), c .before .before .told-line .ensures .1)
+returns-3 c = (says-call (c .before .before .before .before .before .before .before .before .before .before .before .before .before .args .e) (c .before .before .before .before .before .before .before .before .before .before .before .before .before .args .line .now) _ _ _ (c .before .before .before .before .before .before .before .before .before .read-call .result) _ (c .before .before .before .before .before .before .before .before .before .read-call .ensures) (not-false _ (c .before .before .before .before .before .before .before .if2 .left)) (c .before .before .call-line .ensures .0), c .before .before .call-line .ensures .1)
 
 pub turn-spec : {M : Type 1} → statement M
 turn-spec =
@@ -47,6 +47,6 @@ turn-spec =
     no-call-requires-2
     same-length-2
     returns-2
-    told-line-requires
+    call-line-requires
     same-length-3
     returns-3)

@@ -2,7 +2,7 @@
 use native.Mathlib.Omega.{arith}
 use denote.Ref.{now}
 use borrow.Author.Needs.{needs}
-use Rattle.keys.proofs.StoreLaws.{then-put}
+use Rattle.key_traffic.proofs.StoreLaws.{then-put}
 use Rattle.replay_answer.specs.Answer.{answerText}
 use Rattle.replay_answer.proofs.AnswerLaws.{decimal-put, line-put}
 use Rattle.replay_answer.proofs.answer.put_answer.Statement.{statement}

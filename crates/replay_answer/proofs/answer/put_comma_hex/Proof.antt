@@ -1,7 +1,7 @@
 -- `put_comma_hex` meets its contract: a comma, and the digits after it.
 use native.Mathlib.Omega.{arith}
 use borrow.Author.Needs.{needs}
-use Rattle.keys.proofs.StoreLaws.{then-put}
+use Rattle.key_traffic.proofs.StoreLaws.{then-put}
 use Rattle.replay_answer.specs.Answer.{commaHex}
 use Rattle.replay_answer.proofs.answer.put_comma_hex.Statement.{statement}
 use Rattle.replay_answer.proofs.answer.put_comma_hex.Tie as tie

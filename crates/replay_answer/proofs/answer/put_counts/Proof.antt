@@ -1,7 +1,7 @@
 -- `put_counts` meets its contract: the name and four numbers, each stored after the other.
 use native.Mathlib.Omega.{arith}
 use borrow.Author.Needs.{needs}
-use Rattle.keys.proofs.StoreLaws.{then-put}
+use Rattle.key_traffic.proofs.StoreLaws.{then-put}
 use Rattle.replay_answer.specs.Answer.{countsText}
 use Rattle.replay_answer.proofs.AnswerLaws.{line-put}
 use Rattle.replay_answer.proofs.answer.put_counts.Statement.{statement}

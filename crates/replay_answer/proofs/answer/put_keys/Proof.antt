@@ -1,7 +1,7 @@
 -- `put_keys` meets its contract.
 use native.Mathlib.Omega.{arith}
 use borrow.Author.Needs.{needs}
-use Rattle.keys.proofs.StoreLaws.{then-put}
+use Rattle.key_traffic.proofs.StoreLaws.{then-put}
 use Rattle.replay_answer.proofs.answer.put_keys.Statement.{statement}
 use Rattle.replay_answer.proofs.answer.put_keys.Tie as tie
 

@@ -2,8 +2,8 @@
 use native.Mathlib.Omega.{arith}
 use denote.Ref.{now}
 use borrow.Author.Needs.{needs}
-use Rattle.keys.proofs.StoreLaws.{put-none}
-use Rattle.calls.specs.declared.Kind.the-variants as kind
+use Rattle.key_traffic.proofs.StoreLaws.{put-none}
+use Rattle.replay_read.specs.declared.calls.Kind.the-variants as kind
 use Rattle.replay_answer.proofs.AnswerLaws.{rest-as}
 use Rattle.replay_answer.proofs.answer.put_rest.Statement.{statement}
 use Rattle.replay_answer.proofs.answer.put_rest.Tie as tie

@@ -5,7 +5,7 @@ use lib.Dec.{eqb}
 use denote.Ref.{now}
 use borrow.Author.Tests.{eq-eqb, ne-eqb}
 use borrow.Author.Needs.{needs}
-use Rattle.keys.proofs.StoreLaws.{then-put}
+use Rattle.key_traffic.proofs.StoreLaws.{then-put}
 use Rattle.text.specs.Decimal.{decimalOf}
 use Rattle.replay_answer.specs.Answer.{keysText}
 use Rattle.replay_answer.proofs.AnswerLaws.{if-off, if-on, decimal-put}

@@ -7,7 +7,7 @@ use lib.ListN.{length, getD, take, set, length-set}
 use lib.Seq.{sets, take-length}
 use denote.Ref.{now}
 use borrow.Author.Needs.{needs}
-use Rattle.keys.proofs.StoreLaws.{sets-more}
+use Rattle.key_traffic.proofs.StoreLaws.{sets-more}
 use Rattle.replay_answer.proofs.answer.put_text.Statement.{statement}
 use Rattle.replay_answer.proofs.answer.put_text.Tie as tie
 

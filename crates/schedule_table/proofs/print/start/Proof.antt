@@ -3,11 +3,11 @@ use mathlib.Core.Path.{_≡_, sym, ap, _∙_}
 use native.Mathlib.Omega.{arith}
 use denote.Ref.{now}
 use borrow.Author.Needs.{needs}
-use Rattle.keys.specs.Octets.{overlay}
+use Rattle.key_traffic.specs.Octets.{overlay}
 use Rattle.schedule_table.specs.declared.print.Printed.{Printed}
-use Rattle.schedule_text.specs.declared.input.Input.the-variants.{Table, Refused}
+use Rattle.schedule_table.specs.declared.input.Input.the-variants.{Table, Refused}
 use Rattle.schedule_table.specs.Print.{Part, printedOf, nothingAsked}
-use Rattle.schedule_text.proofs.InputLaws.{table-is}
+use Rattle.schedule_table.proofs.InputLaws.{table-is}
 use Rattle.schedule_table.proofs.CursorLaws.{start-is, cursor-steady, refused-fits}
 use Rattle.schedule_table.proofs.print.start.Statement.{statement}
 use Rattle.schedule_table.proofs.print.start.Tie as tie

@@ -7,8 +7,8 @@ use denote.Ref.{now}
 use borrow.Author.Needs.{needs}
 use Rattle.questions.specs.Settings.{lifeFits}
 use Rattle.schedule_table.specs.declared.print.Cursor.{Cursor}
-use Rattle.schedule_text.specs.Schedule.{askedFits}
-use Rattle.keys.proofs.StoreLaws.{sets-front}
+use Rattle.schedule_table.specs.Schedule.{askedFits}
+use Rattle.key_traffic.proofs.StoreLaws.{sets-front}
 use Rattle.schedule_table.proofs.print.start_refused.Statement.{statement}
 use Rattle.schedule_table.proofs.print.start_refused.Tie as tie
 

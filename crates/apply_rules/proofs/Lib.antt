@@ -1,2 +1,0 @@
-pub mod ApplyLaws
-pub mod GaveLaws

@@ -1,3 +1,0 @@
-// The authorization machine, by value: its step hands the machine back with the Identifier counter and the messages that it sends, as
-// specs/Authorization.antt says. What it does to the TEK machines stands in `modem_reply` and `modem_events`.
-pub mod authorization;

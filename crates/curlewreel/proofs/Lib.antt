@@ -1,0 +1,6 @@
+pub mod ModemCallLaws
+pub mod HeadEndCallLaws
+pub mod ReadLaws
+pub mod WriteLaws
+pub mod RoundTrip
+pub mod Contracts

@@ -1,0 +1,4 @@
+pub mod ModemCalls
+pub mod HeadEndCalls
+pub mod Read
+pub mod Write

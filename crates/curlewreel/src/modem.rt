@@ -1,0 +1,128 @@
+// The modem for C: every call with the state by value in and out, and the answer as document 01's number.
+ghost use mathlib.Core.Path.{_≡_};
+ghost use lib.ListN.{length};
+ghost use Rattle.modem_calls.specs.Calls.{newOf, establishedOf, reauthOf, clockOf};
+ghost use Rattle.modem_frames.specs.Frames.{sealOf, openOf};
+ghost use Rattle.curlewreel.specs.ModemCalls.{modemCall, ModemGives, FrameSeals, ModemOpens, ModemReceives};
+use crate::modem_values::FrameSealed;
+use crate::modem_values::ModemCall;
+use crate::modem_values::ModemOpening;
+use crate::modem_values::frame_sealed;
+use crate::modem_values::modem_call;
+use crate::modem_values::modem_opening;
+use crate::words::DIGEST_MAX;
+use crate::words::DIGEST_YES;
+use key_traffic::numbers::TekNumber;
+use modem_calls::calls::clock;
+use modem_calls::calls::established;
+use modem_calls::calls::new;
+use modem_calls::calls::reauth;
+use modem_calls::calls::receive;
+use modem_frames::frames::open;
+use modem_frames::frames::seal;
+use modem_steps::state::Modem;
+use questions::refusal::OUT_OF_LIMITS;
+use questions::settings::Settings;
+
+// A fresh modem at clock 0; where it is refused, one that is all zero.
+#[no_mangle]
+pub extern "C" fn curlewreel_modem_new(settings: Settings, address: u64, said: u16) -> ModemCall
+    ensures { λ r. ⌜ r ≡ modemCall (newOf settings address said) ⌝ }
+{
+    let c = new(settings, address, said);
+    modem_call(c)
+}
+
+// The modem is established; what it sends goes to `out`.
+#[no_mangle]
+pub extern "C" fn curlewreel_modem_established(m: Modem, out: &mut [u8]) -> ModemCall
+    ensures { λ r. ⌜ ModemGives (establishedOf m (length (now (out .entry))))
+        (now (out .entry)) r (now (out .exit)) ⌝ }
+{
+    let c = established(m, out);
+    modem_call(c)
+}
+
+// The modem is to reauthorize; what it sends goes to `out`.
+#[no_mangle]
+pub extern "C" fn curlewreel_modem_reauth(m: Modem, out: &mut [u8]) -> ModemCall
+    ensures { λ r. ⌜ ModemGives (reauthOf m (length (now (out .entry))))
+        (now (out .entry)) r (now (out .exit)) ⌝ }
+{
+    let c = reauth(m, out);
+    modem_call(c)
+}
+
+// The clock goes to second `t`, and due timers fire; what they send goes to `out`.
+#[no_mangle]
+pub extern "C" fn curlewreel_modem_clock(m: Modem, t: u64, out: &mut [u8]) -> ModemCall
+    ensures { λ r. ⌜ ModemGives (clockOf m t (length (now (out .entry))))
+        (now (out .entry)) r (now (out .exit)) ⌝ }
+{
+    let c = clock(m, t, out);
+    modem_call(c)
+}
+
+// A message comes; `digest` is 1 where its digest holds and 0 where not, and any other is out of the limits.
+#[no_mangle]
+pub extern "C" fn curlewreel_modem_receive(
+    m: Modem,
+    message: &[u8],
+    digest: u8,
+    out: &mut [u8],
+) -> ModemCall
+    ensures { λ r. ⌜ ModemReceives m (now (message .entry)) digest (now (out .entry)) r (now (out .exit)) ⌝ }
+{
+    if DIGEST_MAX < digest {
+        return ModemCall {
+            number: OUT_OF_LIMITS,
+            count: 0,
+            modem: m,
+        };
+    }
+    let c = receive(m, message, digest == DIGEST_YES, out);
+    modem_call(c)
+}
+
+// The newer key of a SAID, to seal a frame with.
+#[no_mangle]
+pub extern "C" fn curlewreel_modem_seal(
+    m: Modem,
+    said: u16,
+    tek: &mut [u8],
+    vector: &mut [u8],
+) -> FrameSealed
+    ensures { λ r. ⌜ FrameSeals (sealOf m said (length (now (tek .entry))) (length (now (vector .entry))))
+        (now (tek .entry)) (now (vector .entry)) r (now (tek .exit)) (now (vector .exit)) ⌝ }
+{
+    let c = seal(m, said, tek, vector);
+    frame_sealed(c)
+}
+
+// The held key with a frame's number; where there is none, what the SAID's machine sends goes to `out`.
+#[no_mangle]
+pub extern "C" fn curlewreel_modem_open(
+    m: Modem,
+    direction: u8,
+    address: u64,
+    said: u16,
+    number: u8,
+    tek: &mut [u8],
+    vector: &mut [u8],
+    out: &mut [u8],
+) -> ModemOpening
+    ensures { λ r. ⌜ ModemOpens (openOf m direction address said (record { 0 = number }) (length (now (tek .entry))) (length (now (vector .entry))) (length (now (out .entry))))
+        (now (tek .entry)) (now (vector .entry)) (now (out .entry)) r (now (tek .exit)) (now (vector .exit)) (now (out .exit)) ⌝ }
+{
+    let c = open(
+        m,
+        direction,
+        address,
+        said,
+        TekNumber(number),
+        tek,
+        vector,
+        out,
+    );
+    modem_opening(c)
+}

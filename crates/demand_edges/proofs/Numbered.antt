@@ -1,0 +1,32 @@
+-- The row on the Identifier over the clock call holds, by computation.
+use mathlib.Core.Path.{refl}
+use Rattle.key_traffic.specs.Octets.{padded, allZero, zeroPast}
+use Rattle.questions.specs.Settings.{lifeFits, tekTimesFit, akTimesFit, waitFits, waitsFit, settingsFit}
+use Rattle.key_traffic.specs.Suites.{widthOf}
+use Rattle.key_traffic.specs.Traffic.{keyFits, follows, pairFits}
+use Rattle.message_rules.specs.Attributes.{two, four, attrOctets, octets}
+use Rattle.message_rules.specs.Ranges.{requiredOf}
+use Rattle.message_rules.specs.Writing.{paramsItems, descriptorItems, descriptorsItems, itemsOfType, itemsOfTypes, itemsOf, message, messageOf}
+use Rattle.modem_authorization.specs.Authorization.{authIdentifier, authCounter, authTimer, informsOf, requestsOf, authMoved, authStepOf}
+use Rattle.modem_tek.specs.TekParts.{counterAfter}
+use Rattle.modem_tek.specs.Tek.{identifierAfter, tekTimer, pairAfter, tekSends, tekMoved, tekStepOf}
+use Rattle.modem_transitions.specs.Timers.{isDue}
+use Rattle.modem_transitions.specs.Transitions.{nextIn, authorizationTransitions, tekTransitions}
+use Rattle.modem_steps.specs.Clock.{authTimerEvent, tekTimerEvent, authFired, slotFired, slotsFired, clocked}
+use Rattle.modem_steps.specs.Machine.{authStepped, deliverAuth}
+use Rattle.modem_steps.specs.Slots.{steppedAt, deliverReply}
+use Rattle.modem_steps.specs.State.{withMessage}
+use Rattle.modem_calls.specs.Calls.{clockFits, clockOf}
+use Rattle.modem_limits.specs.Limits.{timerFits, authorizationFits, keyZero, pairHeldFits, longestWait, tekFits, tekZero, slotFits, saidsOfTeks, modemFits}
+use Rattle.modem_calls.specs.Messages.{requestOctets, requestsOctets, outOctets}
+use Rattle.message_rules.specs.Messages.{isNone, different}
+use Rattle.demand_edges.specs.Numbered.{Numbered}
+
+pub numbered : Numbered
+unfolding padded allZero zeroPast lifeFits tekTimesFit akTimesFit waitFits waitsFit settingsFit widthOf keyFits follows pairFits two four attrOctets octets requiredOf paramsItems descriptorItems descriptorsItems itemsOfType itemsOfTypes itemsOf message messageOf authIdentifier authCounter authTimer informsOf requestsOf authMoved authStepOf counterAfter identifierAfter tekTimer pairAfter tekSends tekMoved tekStepOf isDue nextIn authorizationTransitions tekTransitions authTimerEvent tekTimerEvent authFired slotFired slotsFired clocked authStepped deliverAuth steppedAt deliverReply withMessage clockFits clockOf timerFits authorizationFits keyZero pairHeldFits longestWait tekFits tekZero slotFits saidsOfTeks modemFits requestOctets requestsOctets outOctets isNone different
+numbered =
+    record {
+      key-request = record { done = refl; counts = refl; written = refl };
+      request = record { done = refl; counts = refl; written = refl };
+      both = record { done = refl; counts = refl; written = refl };
+    }

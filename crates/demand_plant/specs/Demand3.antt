@@ -1,0 +1,155 @@
+-- Demand 3 in one place (document 01, "The steps of demand 3"): what is claimed of a list of steps, and which lists document 01 speaks of.
+--
+-- `Demand3` is claimed of every list that counts in the wide sense of `Counts` (specs/Run.antt): what reaches the modem is a copy of
+-- what the head-end sent it, at most D seconds old, or is refused; of all other steps nothing is asked. `Listed` is document 01's own
+-- reading, clause by clause; proofs/Demand3.antt proves the claim for the first and gives it for the second.
+use mathlib.Core.Path.{_≡_}
+use mathlib.Core.Logic.{_⊎_}
+use mathlib.Core.Bool.{Bool, true, false}
+use mathlib.Core.List.{List, [], _∷_, _++_, List·Memᴰ}
+use Prim.Native.Nat.{ℕ, zero, suc, _+_, _≤_}
+use lib.ListN.{length, take, drop}
+use Rattle.questions.specs.declared.settings.Settings.{Settings}
+use Rattle.questions.specs.Settings.{halfOf}
+use Rattle.key_association.specs.declared.record.Assoc.{Assoc}
+use Rattle.key_association.specs.Made.{keysMade}
+use Rattle.message_rules.specs.Messages.{lengthOf}
+use Rattle.modem_calls.specs.Calls as Mdm
+use Rattle.modem_frames.specs.Frames as ModemFrames
+use Rattle.demand_plant.specs.World.{World, fresh, Step, list, clock, established, reauth, up, down, sealDown, sealUp, openUp, openDown, Frame, Opening, stepOf, clockAnswers}
+use Rattle.demand_plant.specs.Run.{Did, didOf, after, worldAfter, Copy}
+use Rattle.demand_plant.specs.Claim.{Delivers, Agrees}
+use Rattle.demand_plant.specs.KeysMade.{ShowsLast, SecondsGiven, acceptedBy, struck}
+
+-- ---- the claim about a list, run from the fresh pair
+--
+-- The parts work together. Part 1 rules out a frame that is opened with another key than its own, also one of the same number; by itself it would
+-- let the head-end make a key for a resent request, as long as no frame meets the two. Part 2 rules out that a step other than a listing or a
+-- clock call leads to other keys: with all others struck from the list, the same keys are made. What counts as a key made is the definition's own,
+-- so by itself it says nothing of what the records hold, and would let an engine put keys there unseen. Part 3 rules that out: after every
+-- prefix of the list the records in use hold the last two keys made of each SAID, and so never any other, not even for the time of one step.
+-- Part 4 rules out that a key made depends on an end's state: the second that a listing's keys are made at is told by the list.
+pub record Demand3 (settings : Settings) (address said : ℕ) (records : List Assoc) (F : ℕ) (ss : List Step) : Type 0 where
+  -- 1. each frame that is delivered at most F seconds after its sealing is opened with the very octets that the sealing gave, or is
+  -- refused with 13 or 10
+  pub frames : Agrees F [] (fresh settings address said records) ss
+  -- 2. the keys made by the list are those made by its listings and clock calls alone, each list with its own answers
+  pub made : keysMade (halfOf (settings .tek)) (acceptedBy (fresh settings address said records) ss)
+      ≡ keysMade (halfOf (settings .tek)) (acceptedBy (fresh settings address said records) (struck ss))
+  -- 3. after every prefix of the list, the whole list among them, the records in use are those of the SAIDs listed, in order, and each record's
+  -- older and newer are its SAID's last two keys made, in number, deadline, TEK and vector
+  pub shown : (n : ℕ) → ShowsLast (halfOf (settings .tek)) (acceptedBy (fresh settings address said records) (take n ss))
+      (worldAfter (fresh settings address said records) (take n ss) .head) (worldAfter (fresh settings address said records) (take n ss) .records)
+  -- 4. each accepted listing's second is that of the last accepted clock call before it, and 0 where there is none
+  pub seconds : SecondsGiven 0 (acceptedBy (fresh settings address said records) ss)
+
+-- ---- document 01's lists
+
+-- The messages in the octets that one call of the modem wrote, each apart: code, Identifier, Length, and Length octets
+abbrev pub messagesWith : ℕ → List ℕ → List (List ℕ)
+messagesWith zero octets = []
+messagesWith (suc n) [] = []
+messagesWith (suc n) (b ∷ bs) = take (4 + lengthOf (b ∷ bs)) (b ∷ bs) ∷ messagesWith n (drop (4 + lengthOf (b ∷ bs)) (b ∷ bs))
+
+abbrev pub messagesIn : List ℕ → List (List ℕ)
+messagesIn octets = messagesWith (length octets) octets
+
+-- What the modem wrote in a step; a clock call that is refused for both writes nothing
+abbrev pub clockWrote : Bool → World → ℕ → ℕ → List ℕ
+clockWrote true w t lent = Mdm.clockOf (w .modem) t lent .written
+clockWrote false w t lent = []
+
+abbrev pub modemWrote : World → Step → List ℕ
+modemWrote w (list address allowed l m) = []
+modemWrote w (clock t m lent) = clockWrote (clockAnswers w t m lent) w t lent
+modemWrote w (established lent) = Mdm.establishedOf (w .modem) lent .written
+modemWrote w (reauth lent) = Mdm.reauthOf (w .modem) lent .written
+modemWrote w (up address digest octets key lent) = []
+modemWrote w (down digest octets lent) = Mdm.receiveOf (w .modem) octets digest lent .written
+modemWrote w (sealDown address said tek vector) = []
+modemWrote w (sealUp said tek vector) = []
+modemWrote w (openUp direction address said number tek vector lent) = []
+modemWrote w (openDown direction address said number tek vector lent) = ModemFrames.openOf (w .modem) direction address said number tek vector lent .sent
+
+-- A message that the modem sent, and the second
+pub record Sent : Type 0 where
+  pub octets : List ℕ
+  pub clock : ℕ
+
+abbrev pub sentAt : ℕ → List (List ℕ) → List Sent
+sentAt now [] = []
+sentAt now (o ∷ os) = record { octets = o; clock = now } ∷ sentAt now os
+
+abbrev pub sentBy : World → Step → List Sent
+sentBy w s = sentAt (after w s .head .clock) (messagesIn (modemWrote w s))
+
+-- A copy of one of them, at most D seconds old
+pub record SentCopy (D : ℕ) (sent : List Sent) (now : ℕ) (octets : List ℕ) : Type 0 where
+  pub one : Sent
+  pub there : List·Memᴰ one sent
+  pub same : octets ≡ one .octets
+  pub in-time : now ≤ one .clock + D
+
+-- A frame of an earlier sealing, at most F seconds old, that the step's opening delivers to its receiver
+pub record FrameCopy (F : ℕ) (earlier : List Did) (now : ℕ) (b : Did) : Type 0 where
+  pub sealing : Did
+  pub there : List·Memᴰ sealing earlier
+  pub frame : Frame
+  pub sealed : List·Memᴰ frame (sealing .given .sealed)
+  pub opening : Opening
+  pub opens : List·Memᴰ opening (b .given .opened)
+  pub delivers : Delivers frame opening
+  pub in-time : now ≤ sealing .clock + F
+
+-- any refused call
+abbrev pub IsRefused : World → Step → Type 0
+IsRefused w s = stepOf w s .given .number ≡ 0 → ⊥
+
+-- Delivery to the head-end of a copy of what the modem sent, digest yes, slices long enough; or any message from another modem's address
+abbrev pub UpListed : ℕ → List Sent → World → ℕ → Bool → List ℕ → List ℕ → ℕ → Type 0
+UpListed D sent w address digest octets key lent =
+    ((address ≡ w .modem .address) × SentCopy D sent (w .head .clock) octets × (digest ≡ true) × (342 ≤ lent) × (1 ≤ length key) × (length key ≤ 256))
+    ⊎ (address ≡ w .modem .address → ⊥)
+
+-- Delivery to the modem of a copy of what the head-end sent it, digest yes, the slice long enough
+abbrev pub DownListed : ℕ → List Did → World → Bool → List ℕ → ℕ → Type 0
+DownListed D earlier w digest octets lent = Copy D earlier (w .head .clock) octets × (digest ≡ true) × (216 ≤ lent)
+
+-- A step of such a list: listing others, the clock, established, reauth and sealing ask nothing
+abbrev pub StepListed : ℕ → ℕ → List Sent → List Did → World → Step → Type 0
+StepListed D F sent earlier w (list address allowed l m) = Unit {0}
+StepListed D F sent earlier w (clock t m lent) = Unit {0}
+StepListed D F sent earlier w (established lent) = Unit {0}
+StepListed D F sent earlier w (reauth lent) = Unit {0}
+StepListed D F sent earlier w (up address digest octets key lent) =
+    UpListed D sent w address digest octets key lent ⊎ IsRefused w (up address digest octets key lent)
+StepListed D F sent earlier w (down digest octets lent) = DownListed D earlier w digest octets lent ⊎ IsRefused w (down digest octets lent)
+StepListed D F sent earlier w (sealDown address said tek vector) = Unit {0}
+StepListed D F sent earlier w (sealUp said tek vector) = Unit {0}
+StepListed D F sent earlier w (openUp direction address said number tek vector lent) =
+    FrameCopy F earlier (w .head .clock) (didOf w (openUp direction address said number tek vector lent)) ⊎ IsRefused w (openUp direction address said number tek vector lent)
+StepListed D F sent earlier w (openDown direction address said number tek vector lent) =
+    FrameCopy F earlier (w .head .clock) (didOf w (openDown direction address said number tek vector lent)) ⊎ IsRefused w (openDown direction address said number tek vector lent)
+
+abbrev pub AllStepsListed : ℕ → ℕ → List Sent → List Did → World → List Step → Type 0
+AllStepsListed D F sent earlier w [] = Unit {0}
+AllStepsListed D F sent earlier w (s ∷ ss) =
+    StepListed D F sent earlier w s × AllStepsListed D F (sent ++ sentBy w s) (earlier ++ (didOf w s ∷ [])) (after w s) ss
+
+-- The first step lists the modem, as allowed, and is accepted
+abbrev pub ListsFirst : World → List Step → Type 0
+ListsFirst w [] = ⊥
+ListsFirst w (list address allowed l m ∷ ss) = (address ≡ w .modem .address) × (allowed ≡ 1) × (stepOf w (list address allowed l m) .given .number ≡ 0)
+ListsFirst w (clock t m lent ∷ ss) = ⊥
+ListsFirst w (established lent ∷ ss) = ⊥
+ListsFirst w (reauth lent ∷ ss) = ⊥
+ListsFirst w (up address digest octets key lent ∷ ss) = ⊥
+ListsFirst w (down digest octets lent ∷ ss) = ⊥
+ListsFirst w (sealDown address said tek vector ∷ ss) = ⊥
+ListsFirst w (sealUp said tek vector ∷ ss) = ⊥
+ListsFirst w (openUp direction address said number tek vector lent ∷ ss) = ⊥
+ListsFirst w (openDown direction address said number tek vector lent ∷ ss) = ⊥
+
+pub record Listed (D F : ℕ) (w : World) (ss : List Step) : Type 0 where
+  pub first : ListsFirst w ss
+  pub steps : AllStepsListed D F [] [] w ss

@@ -1,0 +1,201 @@
+-- The two ends, the steps, and what each step gives (document 01, "The steps of demand 3"). Every step is a call of an end, with the
+-- definition that the call's contract cites, and with any arguments.
+use mathlib.Core.Bool.{Bool, true, false, cond, _&&_}
+use mathlib.Core.List.{List, [], _∷_}
+use Prim.Native.Nat.{ℕ}
+use lib.Dec.{leb, eqb}
+use Rattle.key_traffic.specs.declared.numbers.TekNumber.{TekNumber}
+use Rattle.questions.specs.declared.refusal.Answer.{Answer}
+use Rattle.questions.specs.declared.refusal.Answer.the-variants.{Done, Refused}
+use Rattle.questions.specs.declared.settings.Settings.{Settings}
+use Rattle.questions.specs.Refusal.{answerNumber, isDone}
+use Rattle.key_traffic.specs.Sealing.{KeyOut, Sealed}
+use Rattle.key_association.specs.declared.listing.Listing.{Listing}
+use Rattle.key_association.specs.declared.record.Assoc.{Assoc}
+use Rattle.headend_state.specs.declared.state.HeadEnd.{HeadEnd}
+use Rattle.headend_state.specs.State as HeadState
+use Rattle.headend_frames.specs.Frames.{HeadOpened}
+use Rattle.headend_calls.specs.Calls as Head
+use Rattle.headend_frames.specs.FrameCalls as HeadFrames
+use Rattle.modem_steps.specs.declared.state.Modem.{Modem}
+use Rattle.modem_steps.specs.State as ModemState
+use Rattle.modem_calls.specs.Calls as Mdm
+use Rattle.modem_frames.specs.Frames as ModemFrames
+use Rattle.modem_frames.specs.Frames.{ModemOpened}
+
+-- One head-end with its records, and one modem
+pub record World : Type 0 where
+  pub head : HeadEnd
+  pub records : List Assoc
+  pub modem : Modem
+
+-- The fresh pair, with the same settings at both ends and any records lent
+abbrev pub fresh : Settings → ℕ → ℕ → List Assoc → World
+fresh settings address said records =
+    record {
+      head = HeadState.freshOf settings;
+      records = records;
+      modem = ModemState.freshOf settings address said;
+    }
+
+-- Each step with its arguments; of a slice that is only written its length
+pub data Step : Type 0 where
+  -- address, allowed or barred, SAIDs with suites, material
+  list : ℕ → ℕ → Listing → List ℕ → Step
+  -- second, material, messages: one second for both ends
+  clock : ℕ → List ℕ → ℕ → Step
+  established : ℕ → Step
+  reauth : ℕ → Step
+  -- a message to the head-end: address, digest, octets, AUTH-Key, answer
+  up : ℕ → Bool → List ℕ → List ℕ → ℕ → Step
+  -- a message to the modem: digest, octets, messages
+  down : Bool → List ℕ → ℕ → Step
+  -- a sealing at the head-end: address, SAID, TEK, vector
+  sealDown : ℕ → ℕ → ℕ → ℕ → Step
+  -- a sealing at the modem: SAID, TEK, vector
+  sealUp : ℕ → ℕ → ℕ → Step
+  -- an opening at the head-end: direction, address, SAID, number, TEK, vector, TEK Invalid
+  openUp : ℕ → ℕ → ℕ → TekNumber → ℕ → ℕ → ℕ → Step
+  -- an opening at the modem: direction, address, SAID, number, TEK, vector, messages
+  openDown : ℕ → ℕ → ℕ → TekNumber → ℕ → ℕ → ℕ → Step
+
+-- A frame that a sealing gave: its direction (0 up, 1 down), address, SAID and number, and the octets of TEK and vector
+pub record Frame : Type 0 where
+  pub direction : ℕ
+  pub address : ℕ
+  pub said : ℕ
+  pub number : TekNumber
+  pub out : KeyOut
+
+-- An opening: at which end (0 the head-end, 1 the modem), with which frame, whether the slices are long enough, document 01's number of
+-- the answer, and the octets
+pub record Opening : Type 0 where
+  pub end : ℕ
+  pub direction : ℕ
+  pub address : ℕ
+  pub said : ℕ
+  pub number : TekNumber
+  pub long : Bool
+  pub result : ℕ
+  pub out : KeyOut
+
+-- What a step gave: document 01's number of its answer, the frame of an accepted sealing, the opening, and the messages that
+-- the head-end put out for this modem, each apart
+pub record Given : Type 0 where
+  pub number : ℕ
+  pub sealed : List Frame
+  pub opened : List Opening
+  pub put : List (List ℕ)
+
+abbrev pub answered : ℕ → List (List ℕ) → Given
+answered n put = record { number = n; sealed = []; opened = []; put = put }
+
+abbrev pub frameIf : Answer → ℕ → ℕ → ℕ → Sealed → List Frame
+frameIf Done direction address said s = record { direction = direction; address = address; said = said; number = s .number; out = s .out } ∷ []
+frameIf (Refused r) direction address said s = []
+
+abbrev pub sealedAs : ℕ → ℕ → ℕ → Sealed → Given
+sealedAs direction address said s =
+    record { number = answerNumber (s .answer); sealed = frameIf (s .answer) direction address said s; opened = []; put = [] }
+
+-- A message, where there is one and it is for this modem: an answer to another modem goes to that one, which is not here
+abbrev pub oneIf : Bool → List ℕ → List (List ℕ)
+oneIf true (b ∷ bs) = (b ∷ bs) ∷ []
+oneIf true [] = []
+oneIf false bs = []
+
+pub record Stepped : Type 0 where
+  pub world : World
+  pub given : Given
+
+abbrev pub withHead : World → HeadEnd → List Assoc → World
+withHead w h xs = record { head = h; records = xs; modem = w .modem }
+
+abbrev pub withModem : World → Modem → World
+withModem w m = record { head = w .head; records = w .records; modem = m }
+
+-- The clock is refused for both where either refuses
+abbrev pub clockedBy : Bool → World → ℕ → List ℕ → ℕ → World
+clockedBy true w t m lent =
+    record {
+      head = Head.clockOf (w .head) (w .records) t m .state;
+      records = Head.clockRecords (w .head) (w .records) t m;
+      modem = Mdm.clockOf (w .modem) t lent .called .modem;
+    }
+clockedBy false w t m lent = w
+
+-- Of the two ends' numbers that of the earlier question; 0 is no refusal
+abbrev pub earliest : ℕ → ℕ → ℕ
+earliest a b = cond (eqb a 0) b (cond (eqb b 0) a (cond (leb a b) a b))
+
+abbrev pub clockAnswers : World → ℕ → List ℕ → ℕ → Bool
+clockAnswers w t m lent =
+    isDone (Head.clockOf (w .head) (w .records) t m .answer) && isDone (Mdm.clockOf (w .modem) t lent .called .answer)
+
+-- On 13 the head-end's TEK Invalid is put out
+abbrev pub openedUp : World → ℕ → ℕ → ℕ → TekNumber → Bool → HeadOpened → Stepped
+openedUp w direction address said number long o =
+    record {
+      world = withHead w (o .state) (w .records);
+      given = record {
+        number = answerNumber (o .answer);
+        sealed = [];
+        opened = record { end = 0; direction = direction; address = address; said = said; number = number; long = long; result = answerNumber (o .answer); out = o .out } ∷ [];
+        put = oneIf (eqb address (w .modem .address)) (o .invalid);
+      };
+    }
+
+abbrev pub openedDown : World → ℕ → ℕ → ℕ → TekNumber → Bool → ModemOpened → Stepped
+openedDown w direction address said number long o =
+    record {
+      world = withModem w (o .modem);
+      given = record {
+        number = answerNumber (o .answer);
+        sealed = [];
+        opened = record { end = 1; direction = direction; address = address; said = said; number = number; long = long; result = answerNumber (o .answer); out = o .out } ∷ [];
+        put = [];
+      };
+    }
+
+abbrev pub stepOf : World → Step → Stepped
+stepOf w (list address allowed l m) =
+    record {
+      world = withHead w (Head.listOf (w .head) (w .records) address allowed l m .state) (Head.listRecords (w .head) (w .records) address allowed l m);
+      given = answered (answerNumber (Head.listOf (w .head) (w .records) address allowed l m .answer)) [];
+    }
+stepOf w (clock t m lent) =
+    record {
+      world = clockedBy (clockAnswers w t m lent) w t m lent;
+      given = answered (earliest (answerNumber (Head.clockOf (w .head) (w .records) t m .answer)) (answerNumber (Mdm.clockOf (w .modem) t lent .called .answer))) [];
+    }
+stepOf w (established lent) =
+    record {
+      world = withModem w (Mdm.establishedOf (w .modem) lent .called .modem);
+      given = answered (answerNumber (Mdm.establishedOf (w .modem) lent .called .answer)) [];
+    }
+stepOf w (reauth lent) =
+    record {
+      world = withModem w (Mdm.reauthOf (w .modem) lent .called .modem);
+      given = answered (answerNumber (Mdm.reauthOf (w .modem) lent .called .answer)) [];
+    }
+stepOf w (up address digest octets key lent) =
+    record {
+      world = withHead w (Head.receiveOf (w .head) (w .records) address digest octets key lent .state) (w .records);
+      given = answered (answerNumber (Head.receiveOf (w .head) (w .records) address digest octets key lent .answer))
+          (oneIf (eqb address (w .modem .address)) (Head.receiveOctets (w .head) (w .records) address digest octets key lent));
+    }
+stepOf w (down digest octets lent) =
+    record {
+      world = withModem w (Mdm.receiveOf (w .modem) octets digest lent .called .modem);
+      given = answered (answerNumber (Mdm.receiveOf (w .modem) octets digest lent .called .answer)) [];
+    }
+stepOf w (sealDown address said tek vector) =
+    record { world = w; given = sealedAs 1 address said (HeadFrames.sealOf (w .head) (w .records) address said tek vector) }
+stepOf w (sealUp said tek vector) =
+    record { world = w; given = sealedAs 0 (w .modem .address) said (ModemFrames.sealOf (w .modem) said tek vector) }
+stepOf w (openUp direction address said number tek vector lent) =
+    openedUp w direction address said number (leb 16 tek && leb 16 vector && leb 40 lent)
+    (HeadFrames.openOf (w .head) (w .records) direction address said number tek vector lent)
+stepOf w (openDown direction address said number tek vector lent) =
+    openedDown w direction address said number (leb 16 tek && leb 16 vector && leb 216 lent)
+    (ModemFrames.openOf (w .modem) direction address said number tek vector lent)

@@ -1,3 +1,0 @@
-pub mod ModemCallLaws
-pub mod HeadEndCallLaws
-pub mod ReadLaws

@@ -1,3 +1,0 @@
-pub mod ModemCalls
-pub mod HeadEndCalls
-pub mod Read

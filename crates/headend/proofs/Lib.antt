@@ -1,2 +1,0 @@
-pub mod FrameLaws
-pub mod FrameAnswers

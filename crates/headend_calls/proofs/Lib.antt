@@ -1,0 +1,17 @@
+pub mod CallsLaws
+pub mod WithinLaws
+pub mod EntriesKept
+pub mod RecordsKept
+pub mod KeptLimits
+pub mod NearLaws
+pub mod Refused
+pub mod AnswersSent
+pub mod RequestsWritten
+pub mod AnswerCases
+pub mod StateLaws
+pub mod MintLaws
+pub mod FoundLaws
+pub mod ReplyLaws
+pub mod SecondLaws
+pub mod FrameLaws
+pub mod FrameAnswers

@@ -1,0 +1,57 @@
+-- A message that the head-end's `receive` accepts is one that the reader by itself takes, and so one that the writer takes; in the standard order it
+-- is written again with its digest set to zeros.
+use mathlib.Core.Path.{_≡_, refl, sym, _∙_}
+use mathlib.Core.Bool.{Bool, true, false, _||_, not}
+use mathlib.Core.List.{List}
+use Prim.Native.Nat.{ℕ, _≤_}
+use lib.Dec.{eqb}
+use lib.ListN.{length, take, drop}
+use borrow.Author.Tests.{eqb-true}
+use Rattle.questions.specs.declared.refusal.Answer.the-variants.{Done}
+use Rattle.key_association.specs.declared.record.Assoc.{Assoc}
+use Rattle.message_rules.specs.declared.fields.Receiver.the-variants.{HeadEnd as AtHeadEnd}
+use Rattle.message_rules.specs.Messages.{codeOf, identifierOf, receives, question7, identifierAllowed, messageAnswer, readerAnswer}
+use Rattle.message_rules.specs.Fields.{fieldsOf}
+use Rattle.message_rules.specs.Reading.{takenOf, readOf}
+use Rattle.message_rules.specs.Standard.{standard, digestZeroed}
+use Rattle.message_rules.specs.Writing.{messageOf, noDigest, writeOf, writtenOf}
+use Rattle.message_rules.proofs.AttributesLaws.{Octets}
+use Rattle.message_rules.proofs.HoldsLaws.{never}
+use Rattle.message_rules.proofs.MessageAnswers.{answer-done, read-answer, reader-done}
+use Rattle.message_rules.proofs.ReadCall.{reader-writes, read-call}
+use Rattle.headend_state.specs.declared.state.HeadEnd.{HeadEnd}
+use Rattle.headend_steps.specs.Receive.{identifierFits}
+use Rattle.headend_calls.proofs.AnswersSent.{Takes, takes-asked}
+
+-- question 11 at the head-end asks 0 of Authentication Information, and TEK Invalid is not received here
+told-by : (s : List ℕ) → messageAnswer AtHeadEnd s ≡ Done → identifierFits (readOf AtHeadEnd s .fields) ≡ true → identifierAllowed (codeOf s) (identifierOf s) ≡ true
+unfolding identifierFits readOf takenOf fieldsOf receives
+told-by s d e = go (eqb (codeOf s) 11) refl (eqb (codeOf s) 12) refl
+  where
+    seven : question7 AtHeadEnd s ≡ true
+    seven = answer-done AtHeadEnd s .0 d .1
+
+    asked : (not (eqb (codeOf s) 12) || eqb (identifierOf s) 0) ≡ true
+    asked = rw d at e
+
+    go : (a : Bool) → eqb (codeOf s) 11 ≡ a → (b : Bool) → eqb (codeOf s) 12 ≡ b → (not (a || b) || eqb (identifierOf s) 0) ≡ true
+    go false ea false eb = refl
+    go false ea true eb = rw eb at asked
+    go true ea b eb = let is : codeOf s ≡ 11 = eqb-true (codeOf s) 11 ea in let z : false ≡ true = rw is at seven in never z
+
+module _ (h : HeadEnd) (xs : List Assoc) (address : ℕ) (digest : Bool) (s key : List ℕ) (lent : ℕ) (takes : Takes h xs address digest s key lent) where
+  pub request-read : readerAnswer AtHeadEnd s ≡ Done
+  request-read =
+      let q = takes-asked h xs address digest s key lent takes in
+      let d : messageAnswer AtHeadEnd s ≡ Done = sym (read-answer AtHeadEnd s) ∙ q .read in
+      reader-done AtHeadEnd s .1 (d, told-by s d (q .identifier))
+
+  -- no request carries an AUTH-Key: the octets k are as many as were read, none
+  pub request-writes : (k : List ℕ) (room : ℕ) → length k ≡ takenOf s .key .len → length (messageOf (takenOf s .fields) k noDigest) ≤ room
+      → writeOf (takenOf s .fields) k room .answer ≡ Done
+  request-writes k room n fits = reader-writes AtHeadEnd s k room request-read n fits
+
+  pub request-again : (room : ℕ) → Octets s → standard s ≡ true → length s ≤ room
+      → (writeOf (takenOf s .fields) (take (takenOf s .key .len) (drop (takenOf s .key .start) s)) room .answer ≡ Done)
+      × (writtenOf (takenOf s .fields) (take (takenOf s .key .len) (drop (takenOf s .key .start) s)) room ≡ digestZeroed s)
+  request-again room o st fits = read-call AtHeadEnd s room o request-read st fits

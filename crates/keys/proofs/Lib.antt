@@ -1,4 +1,0 @@
-pub mod FrameLaws
-pub mod OctetsLaws
-pub mod TrafficLaws
-pub mod StoreLaws

@@ -1,7 +1,0 @@
-pub mod Suites
-pub mod Addresses
-pub mod Octets
-pub mod Traffic
-pub mod Frame
-pub mod Put
-pub mod Sealing

@@ -1,3 +1,0 @@
-// The fields of a message as octets at fixed offsets, for C: what is laid out and taken back is defined in specs/Layout.antt. That a reading is
-// taken back as its fields is `reading-back` in proofs/ReadHeld.antt.
-pub mod layout;

@@ -1,0 +1,19 @@
+-- `message_attributes::octets::octet` meets its contract.
+use lib.ListN.{List·getD-eq-default}
+use denote.Ref.{now}
+use mathlib.Core.Path.{sym}
+use borrow.Author.Needs.{needs}
+use Rattle.message_attributes.proofs.octets.octet.Statement.{statement}
+use Rattle.message_attributes.proofs.octets.octet.Tie as tie
+
+shared-slice-read-result : tie.Need-shared-slice-read-result
+shared-slice-read-result c = search needs
+
+returns : tie.Need-returns
+returns c = search needs
+
+returns-2 : tie.Need-returns-2
+returns-2 c = sym (List·getD-eq-default (now (c .before .args .s)) 0 (c .if1 .left))
+
+pub octet-spec : {M : Type 1} → statement M
+octet-spec = tie.close (tie.spec shared-slice-read-result returns returns-2)

@@ -1,0 +1,53 @@
+-- The octets of the messages that a call sends, one after the other (document 01, "Messages").
+use Prim.Native.Nat.{ℕ, _≤_, _<_}
+use mathlib.Core.Path.{_≡_}
+use mathlib.Core.Bool.{true}
+use mathlib.Core.List.{List, [], _∷_, _++_}
+use lib.ListN.{length, take, getD, replicate}
+use Rattle.modem_tek.specs.declared.parts.Request.{Request}
+use Rattle.message_rules.specs.declared.fields.Fields.{Fields}
+use Rattle.message_rules.specs.Fields.{noParams, noDescriptor}
+use Rattle.message_rules.specs.Limits.{fieldsFit, authKeyFits}
+use Rattle.message_rules.specs.Writing.{messageOf, noDigest}
+use Rattle.modem_tek.specs.TekParts.{nothing}
+use Rattle.modem_steps.specs.declared.state.Out.{Out}
+
+-- 12 carries nothing, 4 a SAID, 7 an authorization key number and a SAID
+abbrev pub requestFields : Request → Fields
+requestFields r =
+    record {
+      code = r .code;
+      identifier = r .identifier;
+      ak = r .ak;
+      said = r .said;
+      life = 0;
+      error = 0;
+      count = 0;
+      descriptors = replicate 4 noDescriptor;
+      older = noParams;
+      newer = noParams;
+    }
+
+unfoldable pub requestOctets : Request → List ℕ
+requestOctets r = messageOf (requestFields r) [] noDigest
+
+unfoldable pub requestsOctets : List Request → List ℕ
+requestsOctets [] = []
+requestsOctets (r ∷ rs) = requestOctets r ++ requestsOctets rs
+
+unfoldable pub outOctets : Out → List ℕ
+outOctets o = requestsOctets (take (o .count) (o .sent))
+
+-- ---- what writing them asks; `SentFits` shows that what a modem within its limits sends has it
+
+-- A message that the writer takes, of at most 36 octets
+pub record RequestFits (r : Request) : Type 0 where
+  pub fields : fieldsFit (requestFields r) ≡ true
+  pub no-key : authKeyFits (requestFields r) 0 ≡ true
+  pub short : length (requestOctets r) ≤ 36
+
+-- At most n messages, each of them such
+pub record OutFits (o : Out) (n : ℕ) : Type 0 where
+  pub count : o .count ≤ n
+  pub each : (i : ℕ) → i < o .count → RequestFits (getD (o .sent) i nothing)
+  pub six : length (o .sent) ≡ 6

@@ -1,2 +1,0 @@
-// The clock with all its timers at the modem: `clock::clocked` is `clocked` of modem_steps/specs/Clock.antt.
-pub mod clock;

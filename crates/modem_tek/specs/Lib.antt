@@ -1,0 +1,2 @@
+pub mod TekParts
+pub mod Tek

@@ -1,7 +1,0 @@
-pub mod PlaceLaws
-pub mod CodeLaws
-pub mod SoundLaws
-pub mod ToldLaws
-pub mod TakenLaws
-pub mod ReadLaws
-pub mod AloneLaws

@@ -1,0 +1,60 @@
+-- A line that is a call, and its answer: the call's step is demand 3's, with slices of 16, 16 and 342 octets lent for TEK, vector and messages.
+use mathlib.Core.Path.{_≡_}
+use mathlib.Core.List.{List, [], _∷_}
+use mathlib.Core.Option.{Option, none, some}
+use Prim.Native.Nat.{ℕ}
+use lib.ListN.{length, take, replicate}
+use Rattle.key_traffic.specs.Octets.{overlay}
+use Rattle.replay_read.specs.declared.calls.Kind.{Kind}
+use Rattle.demand_plant.specs.World.{Step, stepOf}
+use Rattle.replay_read.specs.Call.{LineCall, callOf}
+use Rattle.replay_answer.specs.Answer.{answerText}
+use Rattle.replay_apply.specs.declared.ends.Ends.{Ends}
+use Rattle.replay_apply.specs.Steps.{worldOf, endsOf, stepFor}
+use Rattle.replay_apply.specs.Gave.{gaveOf}
+
+abbrev pub stepForLine : LineCall → Step
+stepForLine t = stepFor (t .call) (t .octets) (t .key) 16 16 342
+
+-- "?" and a line feed: the line is no call
+abbrev pub noCallText : List ℕ
+noCallText = 63 ∷ 10 ∷ []
+
+-- The answer to a step of a kind: its number, of a sealing the key's number, the TEK, as many octets of the slice lent for the vector as the TEK
+-- has, and what was sent
+unfoldable pub answeredBy : Ends → Step → Kind → List ℕ
+answeredBy e s k =
+    answerText k (stepOf (worldOf e) s .given .number) (gaveOf (worldOf e) s .key .0)
+    (gaveOf (worldOf e) s .out .tek)
+    (take (length (gaveOf (worldOf e) s .out .tek)) (overlay (replicate 16 0) (gaveOf (worldOf e) s .out .vector)))
+    (gaveOf (worldOf e) s .sent)
+
+unfoldable pub endsAfter : Ends → Step → Ends
+endsAfter e s = endsOf (stepOf (worldOf e) s .world)
+
+abbrev pub turnTextFor : Ends → Option LineCall → List ℕ
+turnTextFor e none = noCallText
+turnTextFor e (some t) = answeredBy e (stepForLine t) (t .call .kind)
+
+abbrev pub turnEndsFor : Ends → Option LineCall → Ends
+turnEndsFor e none = e
+turnEndsFor e (some t) = endsAfter e (stepForLine t)
+
+abbrev pub turnText : Ends → List ℕ → List ℕ
+turnText e line = turnTextFor e (callOf line)
+
+abbrev pub turnEnds : Ends → List ℕ → Ends
+turnEnds e line = turnEndsFor e (callOf line)
+
+-- ---- what each contract says: the ends after a step or a line, how many characters are answered, and every octet of the slice lent for them
+abbrev pub AnswersStep : Ends → Step → Kind → List ℕ → Ends → ℕ → List ℕ → Type 0
+AnswersStep e s k out ends count out-after =
+    (ends ≡ endsAfter e s)
+    × (count ≡ length (answeredBy e s k))
+    × (out-after ≡ overlay out (answeredBy e s k))
+
+abbrev pub AnswersLine : Ends → List ℕ → List ℕ → Ends → ℕ → List ℕ → Type 0
+AnswersLine e line out ends count out-after =
+    (ends ≡ turnEnds e line)
+    × (count ≡ length (turnText e line))
+    × (out-after ≡ overlay out (turnText e line))

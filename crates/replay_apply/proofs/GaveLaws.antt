@@ -1,0 +1,77 @@
+-- The frames, the openings and the messages of plant's trace have the octets that a step gives out (specs/Gave.antt).
+use mathlib.Core.Path.{_≡_, refl}
+use mathlib.Core.Bool.{Bool, true, false}
+use mathlib.Core.List.{List, [], _∷_}
+use Prim.Native.Nat.{ℕ}
+use lib.Dec.{eqb}
+use Rattle.questions.specs.declared.refusal.Answer.{Answer}
+use Rattle.questions.specs.declared.refusal.Answer.the-variants.{Done, Refused}
+use Rattle.key_traffic.specs.Sealing.{Sealed}
+use Rattle.headend_calls.specs.Calls as Head
+use Rattle.headend_frames.specs.FrameCalls as HeadFrames
+use Rattle.modem_frames.specs.Frames as ModemFrames
+use Rattle.demand_plant.specs.World.{World, Step, list, clock, established, reauth, up, down, sealDown, sealUp, openUp, openDown, Frame, frameIf, Opening, oneIf, stepOf}
+use Rattle.replay_apply.specs.Gave.{gaveOf}
+
+-- Each of a list
+abbrev pub Each : {A : Type 0} → (A → Type 0) → List A → Type 0
+Each P [] = Unit {0}
+Each P (x ∷ xs) = P x × Each P xs
+
+-- ---- the frame of a sealing
+abbrev FrameGave : World → Step → Frame → Type 0
+FrameGave w s f = (f .number ≡ gaveOf w s .key) × (f .out ≡ gaveOf w s .out)
+
+one-frame : (a : Answer) (direction address said : ℕ) (x : Sealed) → Each (λ (f : Frame). (f .number ≡ x .number) × (f .out ≡ x .out)) (frameIf a direction address said x)
+one-frame Done direction address said x = ((refl, refl), tt)
+one-frame (Refused r) direction address said x = tt
+
+pub sealed-gave : (w : World) (s : Step) → Each (FrameGave w s) (stepOf w s .given .sealed)
+sealed-gave w (list address allowed l m) = tt
+sealed-gave w (clock t m lent) = tt
+sealed-gave w (established lent) = tt
+sealed-gave w (reauth lent) = tt
+sealed-gave w (up address digest octets key lent) = tt
+sealed-gave w (down digest octets lent) = tt
+sealed-gave w (sealDown address said tek vector) =
+    one-frame (HeadFrames.sealOf (w .head) (w .records) address said tek vector .answer) 1 address said (HeadFrames.sealOf (w .head) (w .records) address said tek vector)
+sealed-gave w (sealUp said tek vector) =
+    one-frame (ModemFrames.sealOf (w .modem) said tek vector .answer) 0 (w .modem .address) said (ModemFrames.sealOf (w .modem) said tek vector)
+sealed-gave w (openUp direction address said number tek vector lent) = tt
+sealed-gave w (openDown direction address said number tek vector lent) = tt
+
+-- ---- the opening
+abbrev OpeningGave : World → Step → Opening → Type 0
+OpeningGave w s o = (o .result ≡ stepOf w s .given .number) × (o .out ≡ gaveOf w s .out)
+
+pub opened-gave : (w : World) (s : Step) → Each (OpeningGave w s) (stepOf w s .given .opened)
+opened-gave w (list address allowed l m) = tt
+opened-gave w (clock t m lent) = tt
+opened-gave w (established lent) = tt
+opened-gave w (reauth lent) = tt
+opened-gave w (up address digest octets key lent) = tt
+opened-gave w (down digest octets lent) = tt
+opened-gave w (sealDown address said tek vector) = tt
+opened-gave w (sealUp said tek vector) = tt
+opened-gave w (openUp direction address said number tek vector lent) = ((refl, refl), tt)
+opened-gave w (openDown direction address said number tek vector lent) = ((refl, refl), tt)
+
+-- ---- the message that the head-end puts out for this modem
+one-message : (own : Bool) (octets : List ℕ) → Each (λ (m : List ℕ). m ≡ octets) (oneIf own octets)
+one-message true [] = tt
+one-message true (b ∷ bs) = (refl, tt)
+one-message false octets = tt
+
+pub put-gave : (w : World) (s : Step) → Each (λ (m : List ℕ). m ≡ gaveOf w s .sent) (stepOf w s .given .put)
+put-gave w (list address allowed l m) = tt
+put-gave w (clock t m lent) = tt
+put-gave w (established lent) = tt
+put-gave w (reauth lent) = tt
+put-gave w (up address digest octets key lent) =
+    one-message (eqb address (w .modem .address)) (Head.receiveOctets (w .head) (w .records) address digest octets key lent)
+put-gave w (down digest octets lent) = tt
+put-gave w (sealDown address said tek vector) = tt
+put-gave w (sealUp said tek vector) = tt
+put-gave w (openUp direction address said number tek vector lent) =
+    one-message (eqb address (w .modem .address)) (HeadFrames.openOf (w .head) (w .records) direction address said number tek vector lent .invalid)
+put-gave w (openDown direction address said number tek vector lent) = tt

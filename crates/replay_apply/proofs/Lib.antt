@@ -1,0 +1,3 @@
+pub mod ArrayLent
+pub mod ApplyLaws
+pub mod GaveLaws

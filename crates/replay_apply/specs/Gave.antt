@@ -1,0 +1,42 @@
+-- What a step gives out: of a sealing the key's number, of a sealing and an opening the octets of the key, and the messages that either end
+-- sends. It is made of the definitions that demand 3's step is made of; proofs/GaveLaws.antt shows that the frames, openings and messages of
+-- demand 3's trace have these octets.
+use mathlib.Core.List.{List, []}
+use Prim.Native.Nat.{ℕ}
+use Rattle.key_traffic.specs.declared.numbers.TekNumber.{TekNumber}
+use Rattle.key_traffic.specs.Sealing.{KeyOut, noOut, Sealed}
+use Rattle.headend_calls.specs.Calls as Head
+use Rattle.headend_frames.specs.FrameCalls as HeadFrames
+use Rattle.modem_frames.specs.Frames as ModemFrames
+use Rattle.demand_plant.specs.World.{World, Step, list, clock, established, reauth, up, down, sealDown, sealUp, openUp, openDown}
+use Rattle.demand_plant.specs.Demand3.{modemWrote}
+
+pub record Gave : Type 0 where
+  pub key : TekNumber
+  pub out : KeyOut
+  pub sent : List ℕ
+
+abbrev pub gaveSent : List ℕ → Gave
+gaveSent sent = record { key = record { 0 = 0 }; out = noOut; sent = sent }
+
+abbrev pub gaveSealed : Sealed → Gave
+gaveSealed s = record { key = s .number; out = s .out; sent = [] }
+
+abbrev pub gaveOpened : KeyOut → List ℕ → Gave
+gaveOpened out sent = record { key = record { 0 = 0 }; out = out; sent = sent }
+
+abbrev pub gaveOf : World → Step → Gave
+gaveOf w (list address allowed l m) = gaveSent []
+gaveOf w (clock t m lent) = gaveSent (modemWrote w (clock t m lent))
+gaveOf w (established lent) = gaveSent (modemWrote w (established lent))
+gaveOf w (reauth lent) = gaveSent (modemWrote w (reauth lent))
+gaveOf w (up address digest octets key lent) = gaveSent (Head.receiveOctets (w .head) (w .records) address digest octets key lent)
+gaveOf w (down digest octets lent) = gaveSent (modemWrote w (down digest octets lent))
+gaveOf w (sealDown address said tek vector) = gaveSealed (HeadFrames.sealOf (w .head) (w .records) address said tek vector)
+gaveOf w (sealUp said tek vector) = gaveSealed (ModemFrames.sealOf (w .modem) said tek vector)
+gaveOf w (openUp direction address said number tek vector lent) =
+    gaveOpened (HeadFrames.openOf (w .head) (w .records) direction address said number tek vector lent .out)
+    (HeadFrames.openOf (w .head) (w .records) direction address said number tek vector lent .invalid)
+gaveOf w (openDown direction address said number tek vector lent) =
+    gaveOpened (ModemFrames.openOf (w .modem) direction address said number tek vector lent .out)
+    (modemWrote w (openDown direction address said number tek vector lent))

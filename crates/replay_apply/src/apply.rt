@@ -1,0 +1,48 @@
+// One call applied to both ends and the records.
+ghost use mathlib.Core.Path.{_≡_};
+ghost use lib.ListN.{length};
+ghost use Rattle.replay_apply.specs.Steps.{worldOf, stepFor};
+ghost use Rattle.replay_apply.specs.Applied.{Applies};
+use crate::clock::apply_clock;
+use crate::ends::Applied;
+use crate::ends::Ends;
+use crate::headend_side::apply_list;
+use crate::headend_side::apply_open_up;
+use crate::headend_side::apply_seal_down;
+use crate::headend_side::apply_up;
+use crate::modem_side::apply_down;
+use crate::modem_side::apply_established;
+use crate::modem_side::apply_open_down;
+use crate::modem_side::apply_reauth;
+use crate::modem_side::apply_seal_up;
+use replay_read::calls::Call;
+use replay_read::calls::Kind;
+
+// The ends after the call, document 01's number, and what it gives: the octets of a key at the front of `tek` and `vector`, messages at the
+// front of `out`. `octets` is the material of a listing or a clock call, or a message; `key` the AUTH-Key of a message to the head-end.
+pub fn apply(
+    e: Ends,
+    c: Call,
+    octets: &[u8],
+    key: &[u8],
+    tek: &mut [u8],
+    vector: &mut [u8],
+    out: &mut [u8],
+) -> Applied
+    ensures { λ r. ⌜ Applies (worldOf e) (stepFor c (now (octets .entry)) (now (key .entry)) (length (now (tek .entry))) (length (now (vector .entry))) (length (now (out .entry))))
+        (now (tek .entry)) (now (vector .entry)) (now (out .entry)) r (now (tek .exit)) (now (vector .exit)) (now (out .exit)) ⌝ }
+{
+    let kind = c.kind;
+    match kind {
+        Kind::List => apply_list(e, c, octets),
+        Kind::Clock => apply_clock(e, c, octets, out),
+        Kind::Established => apply_established(e, out),
+        Kind::Reauth => apply_reauth(e, out),
+        Kind::Up => apply_up(e, c, octets, key, out),
+        Kind::Down => apply_down(e, c, octets, out),
+        Kind::SealDown => apply_seal_down(e, c, tek, vector),
+        Kind::SealUp => apply_seal_up(e, c, tek, vector),
+        Kind::OpenUp => apply_open_up(e, c, tek, vector, out),
+        Kind::OpenDown => apply_open_down(e, c, tek, vector, out),
+    }
+}

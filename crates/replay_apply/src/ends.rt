@@ -1,0 +1,77 @@
+// Both ends and the records by value, and what applying a call hands back.
+ghost use mathlib.Core.Path.{_≡_};
+ghost use Rattle.demand_plant.specs.World.{earliest};
+ghost use Rattle.replay_apply.specs.Applied.{quietOf, refusedOf};
+use headend_state::state::HeadEnd;
+use key_association::record::Assoc;
+use key_traffic::numbers::TekNumber;
+use modem_steps::state::Modem;
+use questions::limits::RECORDS_MAX;
+use questions::refusal::DONE;
+
+// The head-end, its records, and the modem.
+pub struct Ends {
+    pub head: HeadEnd,
+    pub records: [Assoc; RECORDS_MAX],
+    pub modem: Modem,
+}
+
+// Document 01's number; of a sealing the key's number; how many octets of TEK and of vector were written, and how many of messages; both
+// ends after the call.
+pub struct Applied {
+    pub number: u8,
+    pub key: TekNumber,
+    pub width: usize,
+    pub count: usize,
+    pub ends: Ends,
+}
+
+// A call that gives no key.
+pub fn quiet(
+    number: u8,
+    count: usize,
+    head: HeadEnd,
+    records: [Assoc; RECORDS_MAX],
+    modem: Modem,
+) -> Applied
+    ensures { λ r. ⌜ r ≡ quietOf number count head records modem ⌝ }
+{
+    let ends = Ends {
+        head: head,
+        records: records,
+        modem: modem,
+    };
+    Applied {
+        number: number,
+        key: TekNumber(0),
+        width: 0,
+        count: count,
+        ends: ends,
+    }
+}
+
+// A call that changes nothing and gives nothing.
+pub fn refused(number: u8, e: Ends) -> Applied
+    ensures { λ r. ⌜ r ≡ refusedOf number e ⌝ }
+{
+    Applied {
+        number: number,
+        key: TekNumber(0),
+        width: 0,
+        count: 0,
+        ends: e,
+    }
+}
+
+// The number of a clock call from those of both ends: that of the earlier question, 0 being none.
+pub fn earlier_number(a: u8, b: u8) -> u8
+    ensures { λ r. ⌜ r ≡ earliest a b ⌝ }
+{
+    if a == DONE {
+        return b;
+    }
+    if b == DONE {
+        return a;
+    }
+    if a <= b { a } else { b }
+}

@@ -1,0 +1,124 @@
+// The calls that reach the head-end alone, applied to both ends.
+ghost use mathlib.Core.Path.{_≡_};
+ghost use lib.Dec.{eqb};
+ghost use lib.ListN.{length};
+ghost use Rattle.questions.specs.Refusal.{answerNumber};
+ghost use Rattle.demand_plant.specs.World.{list, up, sealDown, openUp};
+ghost use Rattle.replay_apply.specs.Steps.{worldOf};
+ghost use Rattle.replay_apply.specs.Applied.{appliedOf, quietOf, AppliesSent, AppliesKey, Applies};
+use crate::ends::Applied;
+use crate::ends::Ends;
+use crate::ends::quiet;
+use crate::held::list_held;
+use crate::held::open_held;
+use crate::held::receive_held;
+use crate::held::seal_held;
+use headend_state::state::Called;
+use key_association::record::Assoc;
+use key_traffic::numbers::TekNumber;
+use modem_steps::state::Modem;
+use questions::limits::RECORDS_MAX;
+use questions::refusal::answer_number;
+use replay_read::calls::Call;
+use replay_read::calls::DIGEST_HOLDS;
+
+// What a call of the head-end gives, with the modem as it was.
+fn of_head(c: Called, records: [Assoc; RECORDS_MAX], modem: Modem) -> Applied
+    ensures { λ r. ⌜ r ≡ quietOf (answerNumber (c .answer)) (c .count) (c .state) records modem ⌝ }
+{
+    let a = c.answer;
+    let h = c.state;
+    let number = answer_number(a);
+    quiet(number, c.count, h, records, modem)
+}
+
+// A listing.
+pub fn apply_list(e: Ends, c: Call, octets: &[u8]) -> Applied
+    ensures { λ r. ⌜ r ≡ appliedOf (worldOf e) (list (c .address) (c .word) (c .listing) (now (octets .entry))) ⌝ }
+{
+    let head = e.head;
+    let records = e.records;
+    let modem = e.modem;
+    let l = c.listing;
+    let r = list_held(head, records, c.address, c.word, l, octets);
+    let called = r.called;
+    let listed = r.records;
+    of_head(called, listed, modem)
+}
+
+// A message to the head-end.
+pub fn apply_up(e: Ends, c: Call, octets: &[u8], key: &[u8], out: &mut [u8]) -> Applied
+    ensures { λ r. ⌜ AppliesSent (worldOf e) (up (c .address) (eqb (c .word) 1) (now (octets .entry)) (now (key .entry)) (length (now (out .entry))))
+        (now (out .entry)) r (now (out .exit)) ⌝ }
+{
+    let head = e.head;
+    let records = e.records;
+    let modem = e.modem;
+    let r = receive_held(
+        head,
+        records,
+        c.address,
+        c.word == DIGEST_HOLDS,
+        octets,
+        key,
+        out,
+    );
+    of_head(r, records, modem)
+}
+
+// A frame that the head-end sends.
+pub fn apply_seal_down(e: Ends, c: Call, tek: &mut [u8], vector: &mut [u8]) -> Applied
+    ensures { λ r. ⌜ AppliesKey (worldOf e) (sealDown (c .address) (c .said) (length (now (tek .entry))) (length (now (vector .entry))))
+        (now (tek .entry)) (now (vector .entry)) r (now (tek .exit)) (now (vector .exit)) ⌝ }
+{
+    let head = e.head;
+    let records = e.records;
+    let r = seal_held(head, records, c.address, c.said, tek, vector);
+    let a = r.answer;
+    let key = r.number;
+    let number = answer_number(a);
+    Applied {
+        number: number,
+        key: key,
+        width: r.width,
+        count: 0,
+        ends: e,
+    }
+}
+
+// A frame that reaches the head-end.
+pub fn apply_open_up(e: Ends, c: Call, tek: &mut [u8], vector: &mut [u8], out: &mut [u8]) -> Applied
+    ensures { λ r. ⌜ Applies (worldOf e) (openUp (c .word) (c .address) (c .said) (c .number) (length (now (tek .entry))) (length (now (vector .entry))) (length (now (out .entry))))
+        (now (tek .entry)) (now (vector .entry)) (now (out .entry)) r (now (tek .exit)) (now (vector .exit)) (now (out .exit)) ⌝ }
+{
+    let head = e.head;
+    let records = e.records;
+    let modem = e.modem;
+    let n = c.number;
+    let r = open_held(
+        head,
+        records,
+        c.word,
+        c.address,
+        c.said,
+        n,
+        tek,
+        vector,
+        out,
+    );
+    let a = r.answer;
+    let state = r.state;
+    let number = answer_number(a);
+    let ends = Ends {
+        head: state,
+        records: records,
+        modem: modem,
+    };
+    Applied {
+        number: number,
+        key: TekNumber(0),
+        width: r.width,
+        count: r.count,
+        ends: ends,
+    }
+}

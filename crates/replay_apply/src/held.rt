@@ -1,0 +1,118 @@
+// The head-end's calls on records that are held by value: the array is lent to the call and handed back.
+ghost use mathlib.Core.Path.{_≡_};
+ghost use lib.ListN.{length};
+ghost use Rattle.key_traffic.specs.Sealing.{SealGives};
+ghost use Rattle.headend_calls.specs.Calls.{listOf, listRecords, clockOf, clockRecords, Receives};
+ghost use Rattle.headend_frames.specs.FrameCalls.{sealOf, openOf};
+ghost use Rattle.headend_frames.specs.FrameCalled.{OpenGives};
+use headend_calls::calls::clock;
+use headend_calls::calls::list;
+use headend_calls::calls::receive;
+use headend_calls::frames::open;
+use headend_calls::frames::seal;
+use headend_frames::frames::OpenedCall;
+use headend_state::state::Called;
+use headend_state::state::HeadEnd;
+use key_association::listing::Listing;
+use key_association::record::Assoc;
+use key_traffic::numbers::TekNumber;
+use key_traffic::sealing::SealedCall;
+use questions::limits::RECORDS_MAX;
+
+// What a call that changes records hands back.
+pub struct Changed {
+    pub called: Called,
+    pub records: [Assoc; RECORDS_MAX],
+}
+
+fn with_records(c: Called, records: [Assoc; RECORDS_MAX]) -> Changed
+    ensures { λ r. ⌜ r ≡ record { called = c; records = records } ⌝ }
+{
+    Changed {
+        called: c,
+        records: records,
+    }
+}
+
+// Lists a modem.
+pub fn list_held(
+    h: HeadEnd,
+    records: [Assoc; RECORDS_MAX],
+    address: u64,
+    allowed: u8,
+    l: Listing,
+    material: &[u8],
+) -> Changed
+    ensures { λ r. ⌜ r ≡ record { called = listOf h records address allowed l (now (material .entry)); records = listRecords h records address allowed l (now (material .entry)) } ⌝ }
+{
+    let mut held = records;
+    let c = list(h, &mut held, address, allowed, l, material);
+    with_records(c, held)
+}
+
+// The clock goes to `t`.
+pub fn clock_held(h: HeadEnd, records: [Assoc; RECORDS_MAX], t: u64, material: &[u8]) -> Changed
+    ensures { λ r. ⌜ r ≡ record { called = clockOf h records t (now (material .entry)); records = clockRecords h records t (now (material .entry)) } ⌝ }
+{
+    let mut held = records;
+    let c = clock(h, &mut held, t, material);
+    with_records(c, held)
+}
+
+// A message from a modem.
+pub fn receive_held(
+    h: HeadEnd,
+    records: [Assoc; RECORDS_MAX],
+    address: u64,
+    digest: bool,
+    message: &[u8],
+    key: &[u8],
+    out: &mut [u8],
+) -> Called
+    ensures { λ r. ⌜ Receives h records address digest (now (message .entry)) (now (key .entry)) (now (out .entry)) r (now (out .exit)) ⌝ }
+{
+    receive(h, &records, address, digest, message, key, out)
+}
+
+// A frame to a modem.
+pub fn seal_held(
+    h: HeadEnd,
+    records: [Assoc; RECORDS_MAX],
+    address: u64,
+    said: u16,
+    tek: &mut [u8],
+    vector: &mut [u8],
+) -> SealedCall
+    ensures { λ r. ⌜ SealGives (sealOf h records address said (length (now (tek .entry))) (length (now (vector .entry))))
+        (now (tek .entry)) (now (vector .entry)) r (now (tek .exit)) (now (vector .exit)) ⌝ }
+{
+    seal(h, &records, address, said, tek, vector)
+}
+
+// A frame from a modem.
+pub fn open_held(
+    h: HeadEnd,
+    records: [Assoc; RECORDS_MAX],
+    direction: u8,
+    address: u64,
+    said: u16,
+    number: TekNumber,
+    tek: &mut [u8],
+    vector: &mut [u8],
+    invalid: &mut [u8],
+) -> OpenedCall
+    ensures { λ r. ⌜ OpenGives (openOf h records direction address said number (length (now (tek .entry))) (length (now (vector .entry))) (length (now (invalid .entry))))
+        (now (tek .entry)) (now (vector .entry)) (now (invalid .entry)) r (now (tek .exit)) (now (vector .exit)) (now (invalid .exit)) ⌝ }
+{
+    open(
+        h,
+        &records,
+        direction,
+        address,
+        said,
+        number,
+        tek,
+        vector,
+        invalid,
+    )
+}

@@ -1,4 +1,0 @@
--- Laws that belong to no one function.
-pub mod CallLaws
-pub mod KindLaws
-pub mod Rows

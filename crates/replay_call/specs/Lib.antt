@@ -1,4 +1,0 @@
--- What the crate's functions answer.
-pub mod Call
-pub mod CallPlaces
-pub mod Reads

@@ -1,0 +1,5 @@
+-- Laws that belong to no one function.
+pub mod CallLaws
+pub mod KindLaws
+pub mod Rows
+pub mod SetupLaws

@@ -1,0 +1,138 @@
+-- What a line of a call says: its name is the first field, and by its name the others.
+use mathlib.Core.Bool.{Bool, true, false, cond, _&&_}
+use mathlib.Core.List.{List, [], _∷_}
+use mathlib.Core.Option.{Option, none, some}
+use Prim.Native.Nat.{ℕ, min}
+use lib.Dec.{leb, eqb}
+use lib.ListN.{length, drop}
+use Rattle.replay_read.specs.declared.calls.Kind.{Kind}
+use Rattle.replay_read.specs.declared.calls.Call.{Call}
+use Rattle.replay_read.specs.declared.calls.Kind.the-variants as kind
+use Rattle.replay_read.specs.Calls.{callWith, plain}
+use Rattle.text.specs.Same.{sameOctets}
+use Rattle.replay_fields.specs.Fields.{fieldsOf, field, isLine, isNumber, numberIn, isFlag}
+use Rattle.text.specs.Hex.{isOctets, octetsOf}
+use Rattle.replay_fields.specs.Listing.{wordIn, isPairs, listingIn}
+
+-- A call, with the octets and the key that it brings
+pub record LineCall : Type 0 where
+  pub call : Call
+  pub octets : List ℕ
+  pub key : List ℕ
+
+-- A call, by whether the line is in its form
+abbrev pub when : Bool → LineCall → Option LineCall
+when true t = some t
+when false t = none
+
+-- ---- what fields say
+
+-- A DIRECTION or a NUMBER: one above 255 is taken as 255, which the engine refuses; a flag is what it is
+abbrev pub octetIn : List ℕ → ℕ
+octetIn f = min (numberIn f) 255
+
+-- ---- the calls
+
+-- list,ADDRESS,ALLOWED,MATERIAL,SAID,SUITE[,SAID,SUITE]..
+unfoldable pub tellList : List (List ℕ) → Option LineCall
+tellList fs =
+    when
+    (leb 6 (length fs) && isNumber (field fs 1) && isFlag (field fs 2) && isOctets (field fs 3) && isPairs (drop 4 fs))
+    (record {
+      call = callWith kind.List (numberIn (field fs 1)) (octetIn (field fs 2)) 0 0 0 (listingIn (drop 4 fs));
+      octets = octetsOf (field fs 3);
+      key = [];
+    })
+
+-- clock,SECOND,MATERIAL
+unfoldable pub tellClock : List (List ℕ) → Option LineCall
+tellClock fs =
+    when
+    (eqb (length fs) 3 && isNumber (field fs 1) && isOctets (field fs 2))
+    (record { call = plain kind.Clock 0 0 (numberIn (field fs 1)) 0 0; octets = octetsOf (field fs 2); key = [] })
+
+-- established and reauth: the name alone
+unfoldable pub tellBare : Kind → List (List ℕ) → Option LineCall
+tellBare k fs = when (eqb (length fs) 1) (record { call = plain k 0 0 0 0 0; octets = []; key = [] })
+
+-- up,ADDRESS,DIGEST,AUTHKEY,OCTETS
+unfoldable pub tellUp : List (List ℕ) → Option LineCall
+tellUp fs =
+    when
+    (eqb (length fs) 5 && isNumber (field fs 1) && isFlag (field fs 2) && isOctets (field fs 3) && isOctets (field fs 4))
+    (record {
+      call = plain kind.Up (numberIn (field fs 1)) (octetIn (field fs 2)) 0 0 0;
+      octets = octetsOf (field fs 4);
+      key = octetsOf (field fs 3);
+    })
+
+-- down,DIGEST,OCTETS
+unfoldable pub tellDown : List (List ℕ) → Option LineCall
+tellDown fs =
+    when
+    (eqb (length fs) 3 && isFlag (field fs 1) && isOctets (field fs 2))
+    (record { call = plain kind.Down 0 (octetIn (field fs 1)) 0 0 0; octets = octetsOf (field fs 2); key = [] })
+
+-- sealdown,ADDRESS,SAID
+unfoldable pub tellSealDown : List (List ℕ) → Option LineCall
+tellSealDown fs =
+    when
+    (eqb (length fs) 3 && isNumber (field fs 1) && isNumber (field fs 2))
+    (record { call = plain kind.SealDown (numberIn (field fs 1)) 0 0 (wordIn (field fs 2)) 0; octets = []; key = [] })
+
+-- sealup,SAID
+unfoldable pub tellSealUp : List (List ℕ) → Option LineCall
+tellSealUp fs =
+    when
+    (eqb (length fs) 2 && isNumber (field fs 1))
+    (record { call = plain kind.SealUp 0 0 0 (wordIn (field fs 1)) 0; octets = []; key = [] })
+
+-- openup and opendown, DIRECTION,ADDRESS,SAID,NUMBER
+unfoldable pub tellOpen : Kind → List (List ℕ) → Option LineCall
+tellOpen k fs =
+    when
+    (eqb (length fs) 5 && isNumber (field fs 1) && isNumber (field fs 2) && isNumber (field fs 3) && isNumber (field fs 4))
+    (record {
+      call = plain k (numberIn (field fs 2)) (octetIn (field fs 1)) 0 (wordIn (field fs 3)) (octetIn (field fs 4));
+      octets = [];
+      key = [];
+    })
+
+-- By its kind
+abbrev pub tellOf : Kind → List (List ℕ) → Option LineCall
+tellOf kind.List fs = tellList fs
+tellOf kind.Clock fs = tellClock fs
+tellOf kind.Established fs = tellBare kind.Established fs
+tellOf kind.Reauth fs = tellBare kind.Reauth fs
+tellOf kind.Up fs = tellUp fs
+tellOf kind.Down fs = tellDown fs
+tellOf kind.SealDown fs = tellSealDown fs
+tellOf kind.SealUp fs = tellSealUp fs
+tellOf kind.OpenUp fs = tellOpen kind.OpenUp fs
+tellOf kind.OpenDown fs = tellOpen kind.OpenDown fs
+
+-- ---- the names
+
+-- The kind that a name says: "list", "clock", "established", "reauth", "up", "down", "sealdown", "sealup", "openup", "opendown"
+unfoldable pub kindNamed : List ℕ → Option Kind
+kindNamed f =
+    cond (sameOctets f (108 ∷ 105 ∷ 115 ∷ 116 ∷ [])) (some kind.List)
+    (cond (sameOctets f (99 ∷ 108 ∷ 111 ∷ 99 ∷ 107 ∷ [])) (some kind.Clock)
+    (cond (sameOctets f (101 ∷ 115 ∷ 116 ∷ 97 ∷ 98 ∷ 108 ∷ 105 ∷ 115 ∷ 104 ∷ 101 ∷ 100 ∷ [])) (some kind.Established)
+    (cond (sameOctets f (114 ∷ 101 ∷ 97 ∷ 117 ∷ 116 ∷ 104 ∷ [])) (some kind.Reauth)
+    (cond (sameOctets f (117 ∷ 112 ∷ [])) (some kind.Up)
+    (cond (sameOctets f (100 ∷ 111 ∷ 119 ∷ 110 ∷ [])) (some kind.Down)
+    (cond (sameOctets f (115 ∷ 101 ∷ 97 ∷ 108 ∷ 100 ∷ 111 ∷ 119 ∷ 110 ∷ [])) (some kind.SealDown)
+    (cond (sameOctets f (115 ∷ 101 ∷ 97 ∷ 108 ∷ 117 ∷ 112 ∷ [])) (some kind.SealUp)
+    (cond (sameOctets f (111 ∷ 112 ∷ 101 ∷ 110 ∷ 117 ∷ 112 ∷ [])) (some kind.OpenUp)
+    (cond (sameOctets f (111 ∷ 112 ∷ 101 ∷ 110 ∷ 100 ∷ 111 ∷ 119 ∷ 110 ∷ [])) (some kind.OpenDown)
+    none)))))))))
+
+-- By its name, if it is one
+abbrev pub tellBy : Option Kind → List (List ℕ) → Option LineCall
+tellBy none fs = none
+tellBy (some k) fs = tellOf k fs
+
+-- What a line says; one that is longer than a line, or whose first field is no name, is no call (so is an empty one)
+unfoldable pub callOf : List ℕ → Option LineCall
+callOf l = cond (isLine l) (tellBy (kindNamed (field (fieldsOf l) 0)) (fieldsOf l)) none

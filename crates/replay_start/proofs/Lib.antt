@@ -1,2 +1,0 @@
-pub mod StartLaws
-pub mod LineLaws

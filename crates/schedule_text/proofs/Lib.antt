@@ -1,3 +1,0 @@
-pub mod InputLaws
-pub mod FieldLaws
-pub mod Edges

@@ -1,2 +1,0 @@
-pub mod NeededLaws
-pub mod ApartLaws

@@ -1,4 +1,0 @@
-// The parts of a message in octets: lengths, the head, attributes and compounds, stored into a lent slice from a place on. What is stored is said by
-// `Put` of crate `keys` and by specs/Parts.antt and specs/Put.antt.
-pub mod lengths;
-pub mod put;
