@@ -27,7 +27,7 @@ use Rattle.message_rules.proofs.ReadWritten.{value-is, read-written}
 
 module _ (e : Receiver) (s : List ℕ) (o : Octets s) (d : messageAnswer e s ≡ Done) (st : standard s ≡ true) where
   -- the octets that are read at the AUTH-Key's place are as many as it tells
-  key-length : length (take (takenOf s .key .len) (drop (takenOf s .key .start) s)) ≡ takenOf s .key .len
+  pub key-length : length (take (takenOf s .key .len) (drop (takenOf s .key .start) s)) ≡ takenOf s .key .len
   unfolding takenOf placeOf
   key-length = go (isRequired (codeOf s) 7) refl (value-is e s o d st 7 refl refl)
     where

@@ -83,6 +83,25 @@ written-zeroed f key digest low high h n =
     rw (r .1 digest, r .1 noDigest, fronted (f .code) (f .identifier) (r .0) digest n, fronted (f .code) (f .identifier) (r .0) noDigest refl)
     (zeroed-last (beforeDigest (f .code) (f .identifier) (r .0)) digest n)
 
+-- Written with any digest of 20 octets, a message that carries one is the same octets, the head of the digest attribute, and the digest
+pub before-digest : (f : Fields) (key : List ℕ) → 4 ≤ f .code → f .code ≤ 12 → isRequired (f .code) 11 ≡ true
+    → (p : List ℕ) × ((digest : List ℕ) → length digest ≡ 20 → messageOf f key digest ≡ p ++ (11 ∷ 0 ∷ 20 ∷ digest))
+unfolding messageOf two
+before-digest f key low high h =
+    let r = ends f key low high h in
+    let c = f .code in
+    let i = f .identifier in (
+      c ∷ i ∷ (two (length (octets (r .0)) + 23) ++ octets (r .0)),
+      λ digest n. ap (λ (l : List Item). message c i (octets l)) (r .1 digest) ∙ fronted c i (r .0) digest n ∙ simp append-assoc,
+    )
+
+-- Where it carries none, the digest makes no difference
+pub without-digest : (f : Fields) (key digest other : List ℕ) → 4 ≤ f .code → f .code ≤ 12 → isRequired (f .code) 11 ≡ false
+    → messageOf f key digest ≡ messageOf f key other
+unfolding messageOf
+without-digest f key digest other low high h =
+    ap (λ (l : List Item). message (f .code) (f .identifier) (octets l)) (ends-not f key low high h digest other)
+
 -- ---- a message without padding
 four-octets : (s : List ℕ) → 4 ≤ length s → s ≡ getD s 0 0 ∷ getD s 1 0 ∷ getD s 2 0 ∷ getD s 3 0 ∷ drop 4 s
 four-octets [] h = absurd (omega arith)

@@ -1,0 +1,2 @@
+-- The definition of HMAC-SHA-1.
+pub mod Hmac

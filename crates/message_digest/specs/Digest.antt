@@ -1,0 +1,27 @@
+-- The digest of a message: HMAC-SHA-1 under a message key over all octets from the code on up to the type octet of the digest attribute, which is
+-- the last of all where a code requires one (document 02, M-100; document 000, I.5 and I.6). No call asks or writes it yet.
+use Prim.Native.Nat.{ℕ, _-_}
+use mathlib.Core.Bool.{Bool, _&&_}
+use mathlib.Core.List.{List}
+use lib.Dec.{eqb}
+use lib.ListN.{length, take}
+use Rattle.digest_hmac.specs.Hmac.{hmac, holds}
+use Rattle.message_rules.specs.declared.fields.Fields.{Fields}
+use Rattle.message_rules.specs.declared.fields.Place.{Place}
+use Rattle.message_rules.specs.Writing.{messageOf, noDigest}
+
+-- How many octets the sum is over, by the place that a reading gives of the digest: those before its attribute's type and length
+abbrev pub coveredUpTo : Place → ℕ
+coveredUpTo p = p .start - 3
+
+-- The digest at its place is the one that the key gives; where a message has none, none holds
+unfoldable pub digestHolds : List ℕ → Place → List ℕ → Bool
+digestHolds key p s = eqb (p .len) 20 && holds s (coveredUpTo p) key (p .start)
+
+-- What the sum of a message to be written is over: all of it but the 23 octets of the digest attribute, whatever digest stands there
+unfoldable pub bare : Fields → List ℕ → List ℕ
+bare f auth = take (length (messageOf f auth noDigest) - 23) (messageOf f auth noDigest)
+
+-- The message with the digest that the key gives
+unfoldable pub signedOf : Fields → List ℕ → List ℕ → List ℕ
+signedOf f auth key = messageOf f auth (hmac key (bare f auth))
