@@ -1,5 +1,6 @@
 /* Messages from C: a Key Request and a Key Reply are written and read back, and a damaged one is refused. */
 #include "curlewreel.h"
+#include "octets.h"
 #include <stdio.h>
 #include <string.h>
 
@@ -10,20 +11,6 @@ enum { FIRST_TYPE = CURLEWREEL_OCTETS_HEAD, FIRST_LENGTH_HIGH, FIRST_LENGTH_LOW 
 
 static const uint8_t none[1];
 static uint8_t fields[CURLEWREEL_FIELDS], message[CURLEWREEL_OCTETS_ANSWER], back[CURLEWREEL_FIELDS];
-
-static void put_two(uint8_t *at, unsigned n) {
-    at[0] = (uint8_t)(n >> 8);
-    at[1] = (uint8_t)n;
-}
-
-static void put_four(uint8_t *at, unsigned long n) {
-    put_two(at, (unsigned)(n >> 16));
-    put_two(at + 2, (unsigned)(n & 0xffff));
-}
-
-static unsigned two(const uint8_t *at) { return (unsigned)at[0] << 8 | at[1]; }
-
-static unsigned long four(const uint8_t *at) { return (unsigned long)two(at) << 16 | two(at + 2); }
 
 static void print_octets(const char *name, const uint8_t *octets, size_t n) {
     printf("  %s", name);

@@ -1,5 +1,6 @@
 /* A modem from C: authorization, a Key Reply, a frame each way, and what is refused. The head-end's messages are made with
  * curlewreel_write. */
+#include "octets.h"
 #include "settings.h"
 #include <stdio.h>
 #include <string.h>
@@ -14,16 +15,6 @@ static const uint8_t auth_key[4] = {1, 2, 3, 4};
 static void print_octets(const uint8_t *octets, size_t n) {
     for (size_t i = 0; i < n; i++) printf(" %02x", octets[i]);
     printf("\n");
-}
-
-static void put_two(uint8_t *at, unsigned n) {
-    at[0] = (uint8_t)(n >> 8);
-    at[1] = (uint8_t)n;
-}
-
-static void put_four(uint8_t *at, unsigned long n) {
-    put_two(at, (unsigned)(n >> 16));
-    put_two(at + 2, (unsigned)(n & 0xffff));
 }
 
 static void done(const char *name, curlewreel_modem_call call) {

@@ -1,11 +1,11 @@
--- `standard::million` meets its contract: safe.
+-- `digests::million` meets its contract.
 use borrow.Author.Needs.{needs}
 use Prim.Native.Nat.{_-_, _≤_}
 use mathlib.Core.Path.{_≡_}
 use lib.ListN.{length}
 use native.Mathlib.Omega.{arith}
-use Rattle.digests.proofs.standard.million.Statement.{statement}
-use Rattle.digests.proofs.standard.million.Tie as tie
+use Rattle.digests.proofs.million.Statement.{statement}
+use Rattle.digests.proofs.million.Tie as tie
 
 abbrev Inv-loop : tie.InvT-loop
 Inv-loop b h₀ i₀ h i = (i ≤ 15625) × (length b ≡ 64)

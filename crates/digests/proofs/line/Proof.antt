@@ -1,9 +1,9 @@
--- `print::line` meets its contract: safe.
+-- `digests::line` meets its contract.
 use borrow.Author.Needs.{needs}
 use Prim.Native.Nat.{_-_, _≤_}
 use native.Mathlib.Omega.{arith}
-use Rattle.digests.proofs.print.line.Statement.{statement}
-use Rattle.digests.proofs.print.line.Tie as tie
+use Rattle.digests.proofs.line.Statement.{statement}
+use Rattle.digests.proofs.line.Tie as tie
 
 abbrev Inv-loop : tie.InvT-loop
 Inv-loop d t₀ i₀ t i = (i ≤ 20)
