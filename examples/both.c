@@ -1,4 +1,7 @@
-/* Both ends from C: a listing, authorization, a key exchange, a frame each way, a rollover, and a frame each way after it. */
+/* Both ends from C: a listing, authorization, a key exchange, a frame each way, a rollover, and a frame each way after it. Each end derives its message
+ * keys from the AUTH-Key, the modem from the one that its Authorization Reply brings. */
+#include "message_keys.h"
+#include "octets.h"
 #include "settings.h"
 #include <stdio.h>
 #include <string.h>
@@ -10,6 +13,7 @@ static const uint8_t allowed = 1;
 static curlewreel_headend headend;
 static curlewreel_record records[CURLEWREEL_RECORDS];
 static curlewreel_modem modem;
+static message_keys headend_keys, modem_keys; /* of the one authorization key that there is here */
 static uint8_t material[CURLEWREEL_OCTETS_MATERIAL], up[CURLEWREEL_OCTETS_SENT], down[CURLEWREEL_OCTETS_ANSWER];
 
 static void print_octets(const char *name, const uint8_t *octets, size_t n) {
@@ -47,6 +51,16 @@ static const uint8_t *with_code(uint8_t code, const uint8_t *octets, size_t n) {
     return NULL;
 }
 
+/* An Authorization Reply brings the AUTH-Key of the keys that count from now on: what the modem sends on it goes under them already. In the field the
+ * AUTH-Key is encrypted for the modem. */
+static void take_auth_key(const uint8_t *message, size_t n) {
+    static const uint8_t any_key[CURLEWREEL_OCTETS_MESSAGE_KEY];
+    uint8_t fields[CURLEWREEL_FIELDS];
+    uint8_t number = curlewreel_read(CURLEWREEL_MODEM, message, n, any_key, sizeof any_key, fields, sizeof fields);
+    if (number == CURLEWREEL_DONE && fields[CURLEWREEL_FIELD_CODE] == CURLEWREEL_MESSAGE_AUTHORIZATION_REPLY)
+        modem_keys = derived(message + two(fields + CURLEWREEL_FIELD_KEY_START), two(fields + CURLEWREEL_FIELD_KEY_LENGTH));
+}
+
 /* The message with that code, of `n` octets that the modem put out, goes up, and the answer comes down; gives how many octets the modem sends
  * then. */
 static size_t exchange(uint8_t code, size_t n) {
@@ -54,9 +68,12 @@ static size_t exchange(uint8_t code, size_t n) {
     if (message == NULL) return 0;
     curlewreel_headend_call answered =
         curlewreel_headend_receive(headend, records, CURLEWREEL_RECORDS, ADDRESS, message, curlewreel_message_octets(message),
-                                   CURLEWREEL_DIGEST_YES, auth_key, sizeof auth_key, down, sizeof down);
+                                   headend_keys.up, sizeof headend_keys.up, headend_keys.down, sizeof headend_keys.down, auth_key,
+                                   sizeof auth_key, down, sizeof down);
     size_t count = at_headend("  head-end", answered);
-    return at_modem("  modem", curlewreel_modem_receive(modem, down, count, CURLEWREEL_DIGEST_YES, up, sizeof up));
+    take_auth_key(down, count);
+    return at_modem("  modem", curlewreel_modem_receive(modem, down, count, modem_keys.down, sizeof modem_keys.down, modem_keys.up,
+                                                        sizeof modem_keys.up, up, sizeof up));
 }
 
 /* What seals or opens a frame. */
@@ -79,14 +96,16 @@ static void frames(void) {
     uint8_t invalid[CURLEWREEL_OCTETS_INVALID];
     curlewreel_sealed s = curlewreel_headend_seal(headend, records, CURLEWREEL_RECORDS, ADDRESS, SAID, sealed.tek, sizeof sealed.tek,
                                                   sealed.vector, sizeof sealed.vector);
-    curlewreel_modem_opening o = curlewreel_modem_open(modem, CURLEWREEL_DOWN, ADDRESS, SAID, s.key, opened.tek, sizeof opened.tek,
-                                                       opened.vector, sizeof opened.vector, up, sizeof up);
+    curlewreel_modem_opening o =
+        curlewreel_modem_open(modem, CURLEWREEL_DOWN, ADDRESS, SAID, s.key, modem_keys.up, sizeof modem_keys.up, opened.tek,
+                              sizeof opened.tek, opened.vector, sizeof opened.vector, up, sizeof up);
     modem = o.modem;
     print_frame("frame down", o.number, s.key, &sealed, &opened);
     s = curlewreel_modem_seal(modem, SAID, sealed.tek, sizeof sealed.tek, sealed.vector, sizeof sealed.vector);
     curlewreel_headend_opening p =
-        curlewreel_headend_open(headend, records, CURLEWREEL_RECORDS, CURLEWREEL_UP, ADDRESS, SAID, s.key, opened.tek, sizeof opened.tek,
-                                opened.vector, sizeof opened.vector, invalid, sizeof invalid);
+        curlewreel_headend_open(headend, records, CURLEWREEL_RECORDS, CURLEWREEL_UP, ADDRESS, SAID, s.key, headend_keys.down,
+                                sizeof headend_keys.down, opened.tek, sizeof opened.tek, opened.vector, sizeof opened.vector, invalid,
+                                sizeof invalid);
     headend = p.headend;
     print_frame("frame up", p.number, s.key, &sealed, &opened);
 }
@@ -97,12 +116,13 @@ static size_t clocks(uint64_t second) {
     for (size_t i = 0; i < sizeof material; i++) material[i] = (uint8_t)(half_lives * sizeof material + i);
     at_headend("head-end's clock",
                curlewreel_headend_clock(headend, records, CURLEWREEL_RECORDS, second, material, sizeof material));
-    return at_modem("modem's clock", curlewreel_modem_clock(modem, second, up, sizeof up));
+    return at_modem("modem's clock", curlewreel_modem_clock(modem, second, modem_keys.up, sizeof modem_keys.up, up, sizeof up));
 }
 
 int main(void) {
     curlewreel_listing listing = {.count = 1, .saids = {SAID}, .suites = {CURLEWREEL_SUITE_DES}};
     for (size_t i = 0; i < sizeof material; i++) material[i] = (uint8_t)(i + 1);
+    headend_keys = derived(auth_key, sizeof auth_key);
     at_headend("head-end", curlewreel_headend_new(settings));
     at_headend("listing", curlewreel_headend_list(headend, records, CURLEWREEL_RECORDS, ADDRESS, allowed, listing, material, sizeof material));
     at_modem("modem", curlewreel_modem_new(settings, ADDRESS, SAID));

@@ -8,10 +8,12 @@
  * What is yours to do
  * - TEKs leave in clear. Wrap those of a Key Reply before it is sent, and unwrap them before the modem receives it: curlewreel_read gives the
  *   fields (with `end` CURLEWREEL_MODEM, the end that receives the code, at both places), and curlewreel_write writes them again with other
- *   octets for the TEKs. RSA, certificates and the frame cipher are yours too.
- * - Digests are written as zeros. Put yours there before a message is sent, after the wrapping. Check each one that comes and say with `digest`
- *   whether it holds: nothing is checked here. curlewreel_read tells where it stands. On arrival check the digest of the message as it came, before
- *   unwrapping.
+ *   octets for the TEKs, and with the digest over those. On arrival look first whether the digest holds over the message as it came
+ *   (CURLEWREEL_FIELD_DIGEST_HOLDS). Where it does, unwrap and write again under the same key; where it does not, hand the message on as it came, and
+ *   it is refused with 12. RSA, certificates and the frame cipher are yours too.
+ * - Message keys. Digests are worked out and checked here, but the keys are yours to derive and to keep: two of 20 octets for each authorization
+ *   key (AK), one for messages that go up and one for those that go down (document 000, 10). "Which message key goes where" below says which one a call
+ *   asks. A key of another length is refused with 2, a wrong one gets the message refused: 12 at the modem, error 5 at the head-end.
  * - Material has to be random, fresh for each call, and never used twice, not even what a call dropped.
  * - Call `clock` often, each second at best: no timer fires elsewhere. One clock has to give both ends' seconds; it never goes back.
  * - When Reject Wait has run out, the modem is in Start and stays there: call `established` again. Silent is left by no call: make a new modem.
@@ -35,8 +37,8 @@
  *   run at the same time. One state is one caller's: two calls on copies of it make two states, of which one is lost.
  * - Structs have the C compiler's padding, which is not kept: compare states field by field. They need no alignment beyond their members'.
  *   The archive is for x86-64 with the System V calling convention, and there is none for another machine.
- * - The deepest call is curlewreel_modem_receive: 15,744 octets of stack, added up in the archive's machine code (outside/depth), and 664 for the
- *   state that it gets by value; at the head-end curlewreel_headend_receive, 9,920 and 1,136. No call recurses, and none takes more for longer input.
+ * - The deepest call is curlewreel_modem_receive: 13,328 octets of stack, added up in the archive's machine code (outside/depth), and 664 for the
+ *   state that it gets by value; at the head-end curlewreel_headend_open, 9,520 and 1,136. No call recurses, and none takes more for longer input.
  * - Keys stay on the dead stack after a call, as in each copy of a state or a record. curlewreel_wipe_stack overwrites the one, the copies are
  *   yours to clear. */
 #ifndef CURLEWREEL_H
@@ -46,18 +48,37 @@
 #include <stdint.h>
 
 #define CURLEWREEL_VERSION_MAJOR 0
-#define CURLEWREEL_VERSION_MINOR 1
-#define CURLEWREEL_VERSION "0.1"
+#define CURLEWREEL_VERSION_MINOR 2
+#define CURLEWREEL_VERSION "0.2"
 
 #ifdef __cplusplus
 extern "C" {
 #endif
+
+/* Which message key goes where. `read_key` is that of the message that the call is handed, `write_key` that of what the call writes. Each is
+ * asked with every call of its row, also where nothing is read or written that has a digest: then any 20 octets do.
+ *
+ *   call                         read_key                                    write_key
+ *   curlewreel_headend_receive   the AK that the message names, up           the same AK, down
+ *   curlewreel_headend_open      none                                        the modem's newest AK, down: number `keys.next` - 1 mod 16 of its entry
+ *   curlewreel_modem_receive     the AK that the message names, down         the modem's AK, up: number `authorization.ak_number`; on an
+ *                                                                            Authorization Reply that of the Reply's own AK, since the Key Requests
+ *                                                                            that it leads to name that one
+ *   curlewreel_modem_clock       none                                        the modem's AK, up
+ *   curlewreel_modem_open        none                                        the modem's AK, up
+ *   curlewreel_read              the AK that the message names, its own way  none
+ *   curlewreel_write             none                                        the AK of the fields, its own way
+ *
+ * `established` and `reauth` write messages without a digest, `list`, `seal` and the head-end's `clock` write none: they take no key. Which AK a
+ * message names curlewreel_read tells before the call, lent any 20 octets: CURLEWREEL_FIELD_AK_NUMBER. It never answers 12. Read with the right key, it tells
+ * too whether the digest holds. */
 
 /* How many octets a call asks. */
 enum {
     CURLEWREEL_OCTETS_HEAD = 4,       /* of each message: code, Identifier, and two of Length, which counts the octets after these four */
     CURLEWREEL_OCTETS_MESSAGE = 1494, /* the longest message, its head too */
     CURLEWREEL_OCTETS_AUTH_KEY = 256, /* the longest AUTH-Key; the shortest has 1 */
+    CURLEWREEL_OCTETS_MESSAGE_KEY = 20, /* `read_key` and `write_key`, exactly */
     CURLEWREEL_OCTETS_ANSWER = 342,   /* `out` of the head-end's receive, at least */
     CURLEWREEL_OCTETS_INVALID = 40,   /* `invalid` of the head-end's open, at least */
     CURLEWREEL_OCTETS_SENT = 216,     /* `out` of each of the modem's calls, at least: six messages */
@@ -128,7 +149,7 @@ enum {
 /* Directions of a frame: the head-end opens what comes up, the modem what comes down. */
 enum { CURLEWREEL_UP = 0, CURLEWREEL_DOWN = 1 };
 
-/* Whether a message's digest holds. */
+/* Whether a message's digest holds, as a reading gives it. */
 enum { CURLEWREEL_DIGEST_NO = 0, CURLEWREEL_DIGEST_YES = 1 };
 
 /* Document 01's numbers of refusals. 0 is done. */
@@ -183,7 +204,8 @@ enum {
     CURLEWREEL_FIELD_KEY_LENGTH = 111,   /* 2: how many they are */
     CURLEWREEL_FIELD_DIGEST_START = 113, /* 2: the same of the digest */
     CURLEWREEL_FIELD_DIGEST_LENGTH = 115,
-    CURLEWREEL_FIELDS = 117
+    CURLEWREEL_FIELD_DIGEST_HOLDS = 117, /* 1: CURLEWREEL_DIGEST_YES where it holds under the key; CURLEWREEL_DIGEST_NO where not, or where there is none */
+    CURLEWREEL_FIELDS = 118
 };
 
 /* Within a descriptor. */
@@ -209,20 +231,22 @@ enum {
 enum { CURLEWREEL_HEAD_END = 0, CURLEWREEL_MODEM = 1 };
 
 /* Reads a message of any octets at an end. Octets after the message's own length are padding.
- * Gives 0 and writes the fields and the two places to the first CURLEWREEL_FIELDS octets of `fields`; its other octets stay as
- * they were. The digest is not checked.
+ * Gives 0 and writes the fields, the two places, and whether the digest holds under `read_key` to the first CURLEWREEL_FIELDS octets of `fields`;
+ * its other octets stay as they were. The digest is over all octets from the code on up to the type octet of the digest attribute.
  * Refuses, and then writes nothing:
  *   1  `end` is not 0 or 1
- *   2  `fields` has fewer than CURLEWREEL_FIELDS octets
+ *   2  `read_key` has not 20 octets, or `fields` fewer than CURLEWREEL_FIELDS
  *   6  fewer than four octets, a length above 1,490, or fewer octets than the length says
  *   7  a code that this end does not receive
  *   8  an attribute that runs past its holder, or a needed one whose length or value is out of its range, inside compounds too
  *   9  a needed attribute is not there as often as told, the digest is not the last, or what two attributes say does not agree
  *   11 TEK Invalid or Authentication Information with an Identifier other than 0; other Identifiers need an end's state and are not asked
  * What it takes in the standard order, curlewreel_write writes again from these octets, with the AUTH-Key's octets (at
- * CURLEWREEL_FIELD_KEY_START of the message) for an Authorization Reply and zeros for the digest; and of what curlewreel_write wrote it gives
- * back the first CURLEWREEL_FIELDS_WRITTEN octets as they were given. */
-uint8_t curlewreel_read(uint8_t end, const uint8_t *message, size_t message_len, uint8_t *fields, size_t fields_len);
+ * CURLEWREEL_FIELD_KEY_START of the message) for an Authorization Reply and the digest that its key gives: octet for octet, where the digest held
+ * under the same key. Of what curlewreel_write wrote it gives back the first CURLEWREEL_FIELDS_WRITTEN octets as they were given, and under the same
+ * key the digest holds. */
+uint8_t curlewreel_read(uint8_t end, const uint8_t *message, size_t message_len, const uint8_t *read_key, size_t read_key_len,
+                        uint8_t *fields, size_t fields_len);
 
 /* What a writing answers: the number, and how many octets it wrote. */
 typedef struct {
@@ -231,18 +255,19 @@ typedef struct {
 } curlewreel_written;
 
 /* Writes the message of the fields in the first CURLEWREEL_FIELDS_WRITTEN octets of `fields`: the needed attributes in the standard
- * order, with zeros for the digest's 20 octets. A reading's CURLEWREEL_FIELDS octets may be given as they are.
+ * order, with the digest that `write_key` gives in 7, 8, 9 and 11. A reading's CURLEWREEL_FIELDS octets may be given as they are.
  *   auth_key: the AUTH-Key's octets, 1 to 256 of them, which an Authorization Reply carries; not looked at for another code.
+ *   write_key: the message key, 20 octets, asked also for a code that carries no digest.
  * Gives number 0 and the count of octets at the front of `out`; its other octets stay as they were.
  * Refuses with count 0, and then writes nothing:
  *   1  the code is not 4 to 12; the Identifier is not 0 in 11 or 12; a field is out of its range, or not zero where the code does not
  *      carry it (octets past a width and descriptors behind the count too); there are not 1 to 4 descriptors with different SAIDs; the
  *      newer's number is not the older's and 1 mod 16, or the older's life not below the newer's (octets that a short `fields` lacks
  *      count as zero)
- *   2  `fields` has fewer than CURLEWREEL_FIELDS_WRITTEN octets, the AUTH-Key has not 1 to 256 where the code carries one, or `out`
- *      is shorter than the message */
+ *   2  `fields` has fewer than CURLEWREEL_FIELDS_WRITTEN octets, the AUTH-Key has not 1 to 256 where the code carries one, `write_key` has
+ *      not 20, or `out` is shorter than the message */
 curlewreel_written curlewreel_write(const uint8_t *fields, size_t fields_len, const uint8_t *auth_key, size_t auth_key_len,
-                                    uint8_t *out, size_t out_len);
+                                    const uint8_t *write_key, size_t write_key_len, uint8_t *out, size_t out_len);
 
 /* The modem. Its state passes by value in and out: start with curlewreel_modem_new, keep what each call hands back, and give it to the
  * next. Every call asks the whole state (1), so one that is out of its limits is refused, and a refusal hands the modem back as it was, but for 13
@@ -314,16 +339,19 @@ curlewreel_modem_call curlewreel_modem_new(curlewreel_settings settings, uint64_
 curlewreel_modem_call curlewreel_modem_established(curlewreel_modem modem, uint8_t *out, size_t out_len);
 curlewreel_modem_call curlewreel_modem_reauth(curlewreel_modem modem, uint8_t *out, size_t out_len);
 
-/* The clock goes to `second`, and due timers fire. Refuses as above, and with 3 a second before the last or above 10^12. */
-curlewreel_modem_call curlewreel_modem_clock(curlewreel_modem modem, uint64_t second, uint8_t *out, size_t out_len);
+/* The clock goes to `second`, and due timers fire. Refuses as above, with 2 also a `write_key` that has not 20 octets, and with 3 a second before
+ * the last or above 10^12. */
+curlewreel_modem_call curlewreel_modem_clock(curlewreel_modem modem, uint64_t second, const uint8_t *write_key, size_t write_key_len,
+                                             uint8_t *out, size_t out_len);
 
-/* A message comes; `digest` is 1 where its digest holds and 0 where it does not.
- * Refuses as above, with 1 also another `digest`, then with 6 to 9 as curlewreel_read does (9 also widths that are not the SAID's suite's);
- * 10 a SAID that is not known (8, 9, 11); 11 an Identifier that is not the waiting Authorization Request's (5, 6), not that of the SAID's
- * waiting Key Request (8, 9), neither 0 nor a waiting Key Request's (10), or not 0 (11); 12 a digest that does not hold (8, 9, 11; for other
- * codes the word is not used). The numbers in brackets are the messages' codes. */
-curlewreel_modem_call curlewreel_modem_receive(curlewreel_modem modem, const uint8_t *message, size_t message_len, uint8_t digest,
-                                               uint8_t *out, size_t out_len);
+/* A message comes.
+ * Refuses as above, with 2 also a `read_key` or a `write_key` that has not 20 octets, then with 6 to 9 as curlewreel_read does (9 also widths that
+ * are not the SAID's suite's); 10 a SAID that is not known (8, 9, 11); 11 an Identifier that is not the waiting Authorization Request's (5, 6), not
+ * that of the SAID's waiting Key Request (8, 9), neither 0 nor a waiting Key Request's (10), or not 0 (11); 12 a digest that does not hold under
+ * `read_key` (8, 9, 11; other codes carry none). The numbers in brackets are the messages' codes. */
+curlewreel_modem_call curlewreel_modem_receive(curlewreel_modem modem, const uint8_t *message, size_t message_len, const uint8_t *read_key,
+                                               size_t read_key_len, const uint8_t *write_key, size_t write_key_len, uint8_t *out,
+                                               size_t out_len);
 
 /* What sealing answers: the number, the key's number, and how many octets of TEK and of vector were written (8 or 16). */
 typedef struct {
@@ -347,11 +375,11 @@ typedef struct {
 
 /* The held key with the frame's number whose deadline is after the clock, at the front of `tek` and `vector`; the modem's `taken` is one more
  * (2^64 - 1 stays). Refuses, and then writes no key: 1 the state or a field (a frame comes down: direction 1); 2 slices of fewer than 16, 16
- * and 216 octets; 10 another address or an unknown SAID; 13 no such key. On 10 and 13 `refused` is one more (2^64 - 1 stays); on 13 the
- * SAID's machine takes TEK Invalid, and what it sends is written to `out`. */
+ * and 216 octets, or a `write_key` that has not 20; 10 another address or an unknown SAID; 13 no such key. On 10 and 13 `refused` is one more
+ * (2^64 - 1 stays); on 13 the SAID's machine takes TEK Invalid, and what it sends is written to `out`. */
 curlewreel_modem_opening curlewreel_modem_open(curlewreel_modem modem, uint8_t direction, uint64_t address, uint16_t said, uint8_t number,
-                                               uint8_t *tek, size_t tek_len, uint8_t *vector, size_t vector_len, uint8_t *out,
-                                               size_t out_len);
+                                               const uint8_t *write_key, size_t write_key_len, uint8_t *tek, size_t tek_len, uint8_t *vector,
+                                               size_t vector_len, uint8_t *out, size_t out_len);
 
 /* The head-end. Its state passes by value in and out like the modem's; the records of its associations are a slice of the caller's, of
  * any length, of which at most 64 come into use; `list` and `clock` change them and the other calls read them. The state says how many are in
@@ -416,17 +444,18 @@ curlewreel_headend_call curlewreel_headend_list(curlewreel_headend headend, curl
 curlewreel_headend_call curlewreel_headend_clock(curlewreel_headend headend, curlewreel_record *records, size_t records_len, uint64_t second,
                                                  const uint8_t *material, size_t material_len);
 
-/* A message comes from the modem of that address; `digest` is 1 where its digest holds and 0 where it does not, and `auth_key` has the
- * AUTH-Key's octets for an Authorization Reply. It has to be that of the authorization key that the Reply will name. Where the entry's
+/* A message comes from the modem of that address; `auth_key` has the AUTH-Key's octets for an Authorization Reply. It has to be that of the authorization key that the Reply will name. Where the entry's
  * `keys.older` is after the clock, none is made, and it is the last one made, number `keys.next` - 1 mod 16: lend the same octets again. Else
  * a new one is made, with number `keys.next`. 1 to 256 octets are asked with every message.
- * The answer is written at the front of `out`; its other octets stay as they were.
- * Refuses, and then writes and changes nothing: 1 the state, a record, the address or another `digest`, or a Key Reply whose lives would be
+ * The answer is written at the front of `out`, with the digest that `write_key` gives where it carries one; its other octets stay as they were. A
+ * Key Request whose digest does not hold under `read_key` gets error 5, where its authorization key is active.
+ * Refuses, and then writes and changes nothing: 1 the state, a record or the address, or a Key Reply whose lives would be
  * above 604,800 s (a lent record may have deadlines that far ahead; the calls make none); 2 fewer records than are in use, `out` of
- * fewer than 342 octets, or an AUTH-Key that has not 1 to 256; then 6 to 9 as curlewreel_read does, and 11 an Authentication
- * Information whose Identifier is not 0. */
+ * fewer than 342 octets, an AUTH-Key that has not 1 to 256, or a `read_key` or a `write_key` that has not 20; then 6 to 9 as curlewreel_read does,
+ * and 11 an Authentication Information whose Identifier is not 0. */
 curlewreel_headend_call curlewreel_headend_receive(curlewreel_headend headend, const curlewreel_record *records, size_t records_len,
-                                                   uint64_t address, const uint8_t *message, size_t message_len, uint8_t digest,
+                                                   uint64_t address, const uint8_t *message, size_t message_len, const uint8_t *read_key,
+                                                   size_t read_key_len, const uint8_t *write_key, size_t write_key_len,
                                                    const uint8_t *auth_key, size_t auth_key_len, uint8_t *out, size_t out_len);
 
 /* The older key of a SAID of that modem, to seal a frame with, at the front of `tek` and `vector`; their other octets stay as they were.
@@ -446,13 +475,14 @@ typedef struct {
 
 /* The held key with the frame's number, at the front of `tek` and `vector`; the head-end's `taken` is one more (2^64 - 1 stays).
  * Refuses, and then writes no key: 1 the state, a record or a field (a frame comes up: direction 0); 2 fewer records than are in use, or slices
- * of fewer than 16, 16 and 40 octets; 10 an address that is not listed, or a SAID that is not that modem's; 13 no such key. On 10 and 13
+ * of fewer than 16, 16 and 40 octets, or a `write_key` that has not 20; 10 an address that is not listed, or a SAID that is not that modem's; 13 no
+ * such key. On 10 and 13
  * `refused` is one more (2^64 - 1 stays); on 13 a TEK Invalid for the modem is written to `invalid`, where an authorization key of it is
  * active. */
 curlewreel_headend_opening curlewreel_headend_open(curlewreel_headend headend, const curlewreel_record *records, size_t records_len,
-                                                   uint8_t direction, uint64_t address, uint16_t said, uint8_t number, uint8_t *tek,
-                                                   size_t tek_len, uint8_t *vector, size_t vector_len, uint8_t *invalid,
-                                                   size_t invalid_len);
+                                                   uint8_t direction, uint64_t address, uint16_t said, uint8_t number,
+                                                   const uint8_t *write_key, size_t write_key_len, uint8_t *tek, size_t tek_len,
+                                                   uint8_t *vector, size_t vector_len, uint8_t *invalid, size_t invalid_len);
 
 /* Small functions for the caller. They are no part of the library and are not proved. */
 

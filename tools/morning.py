@@ -2,12 +2,15 @@
 """Writes the stored run of `replay` (crates/replay/stdin): a hotel's morning. Later calls carry octets that earlier calls gave, so the calls are
 asked one after the other of a program that replays calls. `tools/morning.py PROGRAM > crates/replay/stdin`, and `PROGRAM < crates/replay/stdin > crates/replay/stdout`; the outside implementation was the
 program."""
+import hashlib
 import subprocess
 import sys
 
 PROGRAM = sys.argv[1]
 HOTEL, NEIGHBOUR, STRANGER = 0x00D0A1B2C3D4, 0x00D0A1B2C3D5, 0x00D0A1B2C3FF
 LOBBY, ROOMS, BAKERY = 8800, 8801, 8900
+# the AUTH-Keys of the hotel's authorization keys 0 and 1
+AUTH_KEYS = "00112233445566778899aabbccddeeff", "ffeeddccbbaa99887766554433221100"
 calls = [
     "life,grace,aklife,akgrace,authorize,reauthorize,operational,rekey,reject",
     "1800,300,86400,600,10,10,1,1,60",
@@ -41,16 +44,26 @@ def material(tag, saids):
     return "".join("%02x%02x" % (tag * 16 + k, i) for k in range(saids) for i in range(32))
 
 
-def up(octets, address=HOTEL, digest=1, key="00112233445566778899aabbccddeeff"):
-    return call("up,%d,%d,%s,%s" % (address, digest, key, octets))
+def message_key(pad, ak): return hashlib.sha1(bytes([pad]) * 64 + bytes.fromhex(AUTH_KEYS[ak])).hexdigest()
+def up_key(ak=0): return message_key(0x5C, ak)
+def down_key(ak=0): return message_key(0x3A, ak)
 
 
-def down(octets, digest=1): return call("down,%d,%s" % (digest, octets))
-def clock(second, tag): return call("clock,%d,%s" % (second, material(tag, 3)))
+def up(octets, address=HOTEL, ak=0):
+    """a message that names the authorization key `ak`, or an Authorization Request that gets it"""
+    return call("up,%d,%s,%s,%s,%s" % (address, up_key(ak), down_key(ak), AUTH_KEYS[ak], octets))
+
+
+def down(octets, ak=0, own=0, key=None):
+    """the same; `own` is the modem's authorization key, under which it writes; or it is read with another key"""
+    return call("down,%s,%s,%s" % (key or down_key(ak), up_key(own), octets))
+
+
+def clock(second, tag): return call("clock,%d,%s,%s" % (second, material(tag, 3), up_key()))
 def seal_down(said): return call("sealdown,%d,%d" % (HOTEL, said))[0]
 def seal_up(said): return (call("sealup,%d" % said) + [""])[0]
-def open_down(said, number, direction=1): return call("opendown,%d,%d,%d,%s" % (direction, HOTEL, said, number))
-def open_up(said, number, direction=0): return call("openup,%d,%d,%d,%s" % (direction, HOTEL, said, number))
+def open_down(said, number, direction=1): return call("opendown,%d,%d,%d,%s,%s" % (direction, HOTEL, said, number, up_key()))
+def open_up(said, number, direction=0, ak=0): return call("openup,%d,%d,%d,%s,%s" % (direction, HOTEL, said, number, down_key(ak)))
 
 
 # the head-end's list
@@ -73,7 +86,7 @@ lost = up(rooms)[0]
 again = clock(6, 4)[0]
 assert again == rooms
 found = up(again)[0]
-down(found, digest=0)
+down(found, key=up_key())
 down(found)
 down(lost)
 
@@ -87,10 +100,13 @@ open_up(ROOMS, seal_up(ROOMS))
 open_down(LOBBY, 0, direction=0)
 open_up(BAKERY, 0)
 clock(4, 5)
-call("clock,7,%s" % material(5, 2))
+call("clock,7,%s,%s" % (material(5, 2), up_key()))
 up(lobby[:24])
 down(request)
 call("good morning")
+changed = lobby[:2] + "2a" + lobby[4:]
+assert up(changed)[0] == "0a2a000410000105"
+call("clock,7,%s,%s" % (material(5, 3), up_key()[:38]))
 
 # a forged frame: the modem drops its keys and asks for the pair again
 forged = open_down(LOBBY, 9)[0]
@@ -122,7 +138,7 @@ asked = open_down(LOBBY, late)[0]
 
 # the modem reauthorizes while it waits for that pair
 renewed = call("reauth")[0]
-down(up(renewed)[0])
-down(up(asked)[0])
-open_up(LOBBY, seal_up(LOBBY))
+down(up(renewed, ak=1)[0], ak=1, own=1)
+down(up(asked)[0], own=1)
+open_up(LOBBY, seal_up(LOBBY), ak=1)
 print("\n".join(calls))

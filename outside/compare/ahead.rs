@@ -38,6 +38,13 @@ pub fn move_records(r: &mut Random, state: &mut State, head: &mut HeadEnd) {
     }
 }
 
+/// A message's line with a zero behind the key of what is read.
+pub fn longer_key(line: &str) -> String {
+    let mut fields: Vec<String> = line.split(',').map(str::to_string).collect();
+    fields[2] += "00";
+    fields.join(",")
+}
+
 /// How often a call with moved records did each of these.
 #[derive(Default)]
 pub struct Ahead {
@@ -47,6 +54,9 @@ pub struct Ahead {
     longest: u64,
     refused: u64,
     past_longest: u64,
+    /// Refused for it under a key of 21 octets, and with 2 for that key where the record is not too far ahead.
+    before_length: u64,
+    by_length: u64,
     /// Frames sealed and opened with a record too far ahead for a Key Reply.
     sealed: u64,
     opened: u64,
@@ -71,6 +81,10 @@ impl Ahead {
         let life = |r: &Record| r.newer.deadline - before.clock;
         let of_said = |said: u16| before.records.iter().find(|r| r.said == said).map_or(0, life);
         match call {
+            Call::Up { read_key, .. } if plain.starts_with("0,08") && read_key.len() != 20 => {
+                self.before_length += u64::from(wanted == "1");
+                self.by_length += u64::from(wanted == "2");
+            }
             Call::Up { octets, .. } if plain.starts_with("0,08") => {
                 let said = read(End::HeadEnd, octets).map_or(0, |m| m.fields.said);
                 self.key_request(wanted, of_said(said), before.settings.life);
@@ -96,6 +110,8 @@ impl Ahead {
             ("with a life of 604,800", self.longest),
             ("refused", self.refused),
             ("with a life of 604,801", self.past_longest),
+            ("under a key of 21 octets", self.before_length),
+            ("for that key", self.by_length),
             ("frames sealed", self.sealed),
             ("opened", self.opened),
             ("records rolled", self.rolled),

@@ -1,7 +1,9 @@
 //! The benchmark's rows of both ends' calls, and the stack that the main calls use.
 
 use crate::engine::*;
-use crate::{as_c, library, stack, Side, Table, OF_CALLS};
+use crate::table::{Side, Table, OF_CALLS};
+use crate::{as_c, library, stack};
+use curlewreel_outside::digest::KEY;
 use curlewreel_outside::headend::HeadEnd;
 use curlewreel_outside::limits::{headend_fits, modem_fits};
 use curlewreel_outside::modem;
@@ -19,7 +21,11 @@ const SETTINGS: settings::Settings = settings::Settings {
     rekey: 10,
     reject: 60,
 };
-const KEY: [u8; 128] = [5; 128];
+const AUTH_KEY: [u8; 128] = [5; 128];
+
+/// The message keys of what goes up and of what goes down.
+const UP: [u8; KEY] = [1; KEY];
+const DOWN: [u8; KEY] = [2; KEY];
 
 /// A head-end's state in C's structs, with its records and a slice for its answer.
 #[derive(Clone)]
@@ -63,8 +69,8 @@ fn authorized(records: usize) -> (HeadEnd, modem::Modem, Vec<u8>) {
     let (mut head, address) = head_with(records);
     let mut m = modem::Modem::new(SETTINGS, address, 5).expect("a modem");
     let sent = m.established().expect("established");
-    let reply = head.receive(address, true, &KEY, &sent[4..]).expect("an Authorization Reply");
-    let requests = m.receive(true, &reply).expect("Key Requests");
+    let reply = head.receive(address, &UP, &DOWN, &AUTH_KEY, &sent[4..]).expect("an Authorization Reply");
+    let requests = m.receive(&DOWN, &UP, &reply).expect("Key Requests");
     (head, m, requests)
 }
 
@@ -80,7 +86,7 @@ fn key_request(table: &mut Table, records: usize) {
     let mut out = [0; 342];
     let mut outside = |h: &mut HeadEnd| {
         assert!(headend_fits(h));
-        let octets = h.receive(black_box(address), true, &KEY, black_box(request)).expect("a Key Reply");
+        let octets = h.receive(black_box(address), black_box(&UP), &DOWN, &AUTH_KEY, black_box(request)).expect("a Key Reply");
         black_box(&mut out)[..octets.len()].copy_from_slice(&octets);
     };
     let name = format!("head-end: Key Request to Key Reply, {records} records");
@@ -89,9 +95,12 @@ fn key_request(table: &mut Table, records: usize) {
 
 fn receive(h: &mut HeadC, address: u64, request: &[u8]) -> usize {
     let (records, n, out) = (h.records.as_ptr(), h.records.len(), h.out.as_mut_ptr());
-    let (message, length, key) = (request.as_ptr(), request.len(), KEY.as_ptr());
-    let c = unsafe { curlewreel_headend_receive(h.headend, records, n, address, message, length, 1, key, KEY.len(), out, 342) };
-    assert!(c.number == 0 && c.count > 0, "the library answered {}", c.number);
+    let (message, length, auth_key) = (request.as_ptr(), request.len(), AUTH_KEY.as_ptr());
+    let (up, down) = (UP.as_ptr(), DOWN.as_ptr());
+    let c = unsafe {
+        curlewreel_headend_receive(h.headend, records, n, address, message, length, up, KEY, down, KEY, auth_key, AUTH_KEY.len(), out, 342)
+    };
+    assert!(c.number == 0 && h.out[0] == 8, "the library answered {}", c.number);
     h.headend = c.headend;
     c.count
 }
@@ -116,14 +125,15 @@ fn clock_of_head(table: &mut Table, name: &str, records: usize, second: u64) {
 }
 
 fn modem_receive(m: &mut ModemC, message: &[u8]) -> usize {
-    let c = unsafe { curlewreel_modem_receive(m.modem, message.as_ptr(), message.len(), 1, m.out.as_mut_ptr(), 216) };
+    let (octets, length, down, up) = (message.as_ptr(), message.len(), DOWN.as_ptr(), UP.as_ptr());
+    let c = unsafe { curlewreel_modem_receive(m.modem, octets, length, down, KEY, up, KEY, m.out.as_mut_ptr(), 216) };
     assert!(c.number == 0, "the library answered {}", c.number);
     m.modem = c.modem;
     c.count
 }
 
 fn modem_clock(m: &mut ModemC, second: u64) -> usize {
-    let c = unsafe { curlewreel_modem_clock(m.modem, second, m.out.as_mut_ptr(), 216) };
+    let c = unsafe { curlewreel_modem_clock(m.modem, second, UP.as_ptr(), KEY, m.out.as_mut_ptr(), 216) };
     assert!(c.number == 0, "the library answered {}", c.number);
     m.modem = c.modem;
     c.count
@@ -132,9 +142,10 @@ fn modem_clock(m: &mut ModemC, second: u64) -> usize {
 /// The modem before its last Key Reply, and that reply.
 fn before_reply() -> (modem::Modem, Vec<u8>) {
     let (mut head, mut m, requests) = authorized(4);
-    let mut replies: Vec<Vec<u8>> = requests.chunks(36).map(|r| head.receive(m.address, true, &KEY, r).expect("a Key Reply")).collect();
+    let answer = |r: &[u8]| head.receive(m.address, &UP, &DOWN, &AUTH_KEY, r).expect("a Key Reply");
+    let mut replies: Vec<Vec<u8>> = requests.chunks(36).map(answer).collect();
     let last = replies.pop().expect("four replies");
-    replies.iter().for_each(|r| drop(m.receive(true, r).expect("a Key Reply")));
+    replies.iter().for_each(|r| drop(m.receive(&DOWN, &UP, r).expect("a Key Reply")));
     (m, last)
 }
 
@@ -146,7 +157,7 @@ fn key_reply(table: &mut Table) {
     };
     let mut outside = |m: &mut modem::Modem| {
         assert!(modem_fits(m));
-        black_box(m.receive(true, black_box(&reply))).expect("a Key Reply");
+        black_box(m.receive(black_box(&DOWN), &UP, black_box(&reply))).expect("a Key Reply");
     };
     let (engine, outside) = (Side { make: &|| c.clone(), call: &mut engine }, Side { make: &|| m.clone(), call: &mut outside });
     table.row("modem: Key Reply", OF_CALLS, 200, engine, outside);
@@ -154,12 +165,12 @@ fn key_reply(table: &mut Table) {
 
 fn clock_of_modem(table: &mut Table, name: &str, second: u64, octets: usize) {
     let (mut m, reply) = before_reply();
-    m.receive(true, &reply).expect("a Key Reply");
+    m.receive(&DOWN, &UP, &reply).expect("a Key Reply");
     let (c, mut out) = (modem_of(&m), [0; 216]);
     let mut engine = |m: &mut ModemC| assert_eq!(modem_clock(m, black_box(second)), octets);
     let mut outside = |m: &mut modem::Modem| {
         assert!(modem_fits(m));
-        let sent = m.clock(black_box(second)).expect("a clock call");
+        let sent = m.clock(black_box(second), black_box(&UP)).expect("a clock call");
         black_box(&mut out)[..sent.len()].copy_from_slice(&sent);
     };
     let (engine, outside) = (Side { make: &|| c.clone(), call: &mut engine }, Side { make: &|| m.clone(), call: &mut outside });
@@ -181,7 +192,7 @@ extern "C" fn modem_handed(modem: Modem) -> ModemCall {
 fn handed(table: &mut Table) {
     let (wrong_head, wrong_modem) = (HeadC { headend: Headend::default(), records: vec![], out: [0; 342] }, Modem::default());
     let mut engine = |h: &mut HeadC| {
-        let c = unsafe { curlewreel_headend_clock(h.headend, h.records.as_mut_ptr(), 0, 0, KEY.as_ptr(), 0) };
+        let c = unsafe { curlewreel_headend_clock(h.headend, h.records.as_mut_ptr(), 0, 0, AUTH_KEY.as_ptr(), 0) };
         assert_eq!(c.number, 1);
         h.headend = c.headend;
     };
@@ -195,7 +206,7 @@ fn handed(table: &mut Table) {
         Side { make: &make, call: &mut outside },
     );
     let mut engine = |m: &mut ModemC| {
-        let c = unsafe { curlewreel_modem_clock(m.modem, 0, m.out.as_mut_ptr(), 216) };
+        let c = unsafe { curlewreel_modem_clock(m.modem, 0, UP.as_ptr(), KEY, m.out.as_mut_ptr(), 216) };
         assert_eq!(c.number, 1);
         m.modem = c.modem;
     };
@@ -226,9 +237,9 @@ pub fn stacks() {
     println!("{:<52} {:>9}", "stack of a call in octets", "library");
     let show = |name: &str, used: usize| println!("{name:<52} {used:>9}");
     let (octets, mut fields) = (crate::bench_messages::unknown(1_490), [0; library::FIELDS]);
-    show("read 1490 octets", stack::used(&mut || assert_eq!(library::read(0, &octets, &mut fields), 0)));
+    show("read 1490 octets", stack::used(&mut || assert_eq!(library::read(0, &octets, &UP, &mut fields), 0)));
     let (laid_out, mut out) = (library::laid_out(&crate::bench_messages::authorization_reply()), [0; 400]);
-    show("write an Authorization Reply", stack::used(&mut || assert_eq!(library::write(&laid_out, &[5; 256], &mut out).number, 0)));
+    show("write an Authorization Reply", stack::used(&mut || assert_eq!(library::write(&laid_out, &[5; 256], &UP, &mut out).number, 0)));
     let (head, m, requests) = authorized(64);
     let (mut h, address) = (head_of(&head), m.address);
     show("head-end: Key Request to Key Reply", stack::used(&mut || assert_eq!(receive(&mut h, address, &requests[108..]), 140)));

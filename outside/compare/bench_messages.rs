@@ -1,12 +1,16 @@
 //! The benchmark's rows of the reader, the writer and the frame decision.
 
 use crate::library;
-use crate::{Side, Table, OF_MESSAGES};
+use crate::table::{Side, Table, OF_MESSAGES};
+use curlewreel_outside::digest::KEY;
 use curlewreel_outside::frame::{self, Pair};
 use curlewreel_outside::message::{self, Descriptor, End, Fields, Params};
 use std::hint::black_box;
 
 const BATCH: usize = 2_000;
+
+/// The message key of all that is read and written here.
+const MESSAGE_KEY: [u8; KEY] = [3; KEY];
 
 fn params(number: u8, life: u32, first: u8) -> Params {
     Params { number, life, tek: (first..first + 8).collect(), vector: (first + 16..first + 24).collect() }
@@ -39,13 +43,14 @@ pub fn unknown(length: usize) -> Vec<u8> {
 fn reading(table: &mut Table, name: &str, end: u8, octets: &[u8]) {
     let which = if end == 0 { End::HeadEnd } else { End::Modem };
     let mut fields = [0; library::FIELDS];
-    assert_eq!(library::read(end, octets, &mut fields), 0);
-    assert_eq!(message::read_alone(which, octets).map(|r| library::laid_out_reading(&r)), Ok(fields.to_vec()));
+    assert_eq!(library::read(end, octets, &MESSAGE_KEY, &mut fields), 0);
+    let read = |octets: &[u8], key: &[u8]| message::read_alone(which, octets).map(|r| (r.holds(octets, key), r));
+    assert_eq!(read(octets, &MESSAGE_KEY).map(|(holds, r)| library::laid_out_reading(&r, holds)), Ok(fields.to_vec()));
     let mut engine = |(): &mut ()| {
-        black_box(library::read(end, black_box(octets), black_box(&mut fields)));
+        black_box(library::read(end, black_box(octets), black_box(&MESSAGE_KEY), black_box(&mut fields)));
     };
     let mut outside = |(): &mut ()| {
-        black_box(message::read_alone(which, black_box(octets))).expect("it was read before");
+        black_box(read(black_box(octets), black_box(&MESSAGE_KEY))).expect("it was read before");
     };
     table.row(name, OF_MESSAGES, BATCH, Side { make: &|| (), call: &mut engine }, Side { make: &|| (), call: &mut outside });
 }
@@ -53,13 +58,13 @@ fn reading(table: &mut Table, name: &str, end: u8, octets: &[u8]) {
 fn writing(table: &mut Table, name: &str, fields: &Fields, key: &[u8]) {
     let laid_out = library::laid_out(fields);
     let (mut out, mut other) = ([0; 400], [0; 400]);
-    let count = library::write(&laid_out, key, &mut out).count;
-    assert_eq!(message::write(fields, key, 400), Ok(out[..count].to_vec()));
+    let count = library::write(&laid_out, key, &MESSAGE_KEY, &mut out).count;
+    assert_eq!(message::write(fields, key, &MESSAGE_KEY, 400), Ok(out[..count].to_vec()));
     let mut engine = |(): &mut ()| {
-        black_box(library::write(black_box(&laid_out), black_box(key), black_box(&mut out)).count);
+        black_box(library::write(black_box(&laid_out), black_box(key), black_box(&MESSAGE_KEY), black_box(&mut out)).count);
     };
     let mut outside = |(): &mut ()| {
-        let octets = message::write(black_box(fields), black_box(key), 400).expect("it was written before");
+        let octets = message::write(black_box(fields), black_box(key), black_box(&MESSAGE_KEY), 400).expect("it was written before");
         black_box(&mut other)[..octets.len()].copy_from_slice(&octets);
     };
     table.row(name, OF_MESSAGES, BATCH, Side { make: &|| (), call: &mut engine }, Side { make: &|| (), call: &mut outside });
@@ -82,13 +87,13 @@ fn deciding(table: &mut Table) {
 }
 
 pub fn rows(table: &mut Table) {
-    let octets = message::write(&key_reply(), &[], 400).expect("a Key Reply");
+    let octets = message::write(&key_reply(), &[], &MESSAGE_KEY, 400).expect("a Key Reply");
     assert_eq!(octets.len(), 108);
-    reading(table, "read a Key Reply, 108 octets", 1, &octets);
+    reading(table, "read a Key Reply, 108 octets, with its digest", 1, &octets);
     for length in [100, 400, 1_490] {
         reading(table, &format!("read {length} octets of unknown attributes"), 0, &unknown(length));
     }
-    writing(table, "write a Key Reply", &key_reply(), &[]);
+    writing(table, "write a Key Reply with its digest", &key_reply(), &[]);
     writing(table, "write an Authorization Reply, AUTH-Key of 256", &authorization_reply(), &[5; 256]);
     deciding(table);
 }

@@ -9,16 +9,17 @@ pub struct Frame {
     pub address: u64,
     pub said: u16,
     pub number: u8,
+    pub write_key: Vec<u8>,
 }
 
 #[derive(Clone)]
 pub enum Call {
     List { address: u64, allowed: u8, listing: Listing, material: Vec<u8> },
-    Clock { second: u64, material: Vec<u8> },
+    Clock { second: u64, material: Vec<u8>, write_key: Vec<u8> },
     Established,
     Reauth,
-    Up { address: u64, digest: u8, auth_key: Vec<u8>, octets: Vec<u8> },
-    Down { digest: u8, octets: Vec<u8> },
+    Up { address: u64, read_key: Vec<u8>, write_key: Vec<u8>, auth_key: Vec<u8>, octets: Vec<u8> },
+    Down { read_key: Vec<u8>, write_key: Vec<u8>, octets: Vec<u8> },
     SealDown { address: u64, said: u16 },
     SealUp { said: u16 },
     OpenUp(Frame),
@@ -39,14 +40,17 @@ impl Call {
     pub fn parse(line: &str) -> Call {
         let f: Vec<&str> = line.split(',').collect();
         let n = |at: usize| f[at].parse::<u64>().expect("a number");
-        let frame = || Frame { direction: one(n(1)), address: n(2), said: two(n(3)), number: one(n(4)) };
+        let frame = || Frame { direction: one(n(1)), address: n(2), said: two(n(3)), number: one(n(4)), write_key: unhex(f[5]) };
         match f[0] {
             "list" => Call::List { address: n(1), allowed: one(n(2)), listing: listing(&f[4..]), material: unhex(f[3]) },
-            "clock" => Call::Clock { second: n(1), material: unhex(f[2]) },
+            "clock" => Call::Clock { second: n(1), material: unhex(f[2]), write_key: unhex(f[3]) },
             "established" => Call::Established,
             "reauth" => Call::Reauth,
-            "up" => Call::Up { address: n(1), digest: one(n(2)), auth_key: unhex(f[3]), octets: unhex(f[4]) },
-            "down" => Call::Down { digest: one(n(1)), octets: unhex(f[2]) },
+            "up" => {
+                let (read_key, write_key) = (unhex(f[2]), unhex(f[3]));
+                Call::Up { address: n(1), read_key, write_key, auth_key: unhex(f[4]), octets: unhex(f[5]) }
+            }
+            "down" => Call::Down { read_key: unhex(f[1]), write_key: unhex(f[2]), octets: unhex(f[3]) },
             "sealdown" => Call::SealDown { address: n(1), said: two(n(2)) },
             "sealup" => Call::SealUp { said: two(n(1)) },
             "openup" => Call::OpenUp(frame()),
@@ -76,6 +80,18 @@ impl Call {
     /// Does it lend slices for a TEK and a vector?
     pub fn keys(&self) -> bool {
         matches!(self, Call::SealDown { .. } | Call::SealUp { .. } | Call::OpenUp(_) | Call::OpenDown(_))
+    }
+
+    /// The message keys that it lends, with a name for each.
+    pub fn message_keys(&mut self) -> Vec<(&'static str, &mut Vec<u8>)> {
+        match self {
+            Call::Clock { write_key, .. } => vec![("the clock's write_key", write_key)],
+            Call::Up { read_key, write_key, .. } => vec![("the head-end's read_key", read_key), ("the head-end's write_key", write_key)],
+            Call::Down { read_key, write_key, .. } => vec![("the modem's read_key", read_key), ("the modem's write_key", write_key)],
+            Call::OpenUp(frame) => vec![("write_key of opening at the head-end", &mut frame.write_key)],
+            Call::OpenDown(frame) => vec![("write_key of opening at the modem", &mut frame.write_key)],
+            _ => vec![],
+        }
     }
 
     /// How many records a listing adds.

@@ -1,16 +1,19 @@
 //! Both ends of the library, their states by value through C's structs, against the outside ones on random lists of calls.
-//! Every answer, state, record and lent octet is compared; short slices and damaged states have to be refused. `ends LISTS CALLS SEED`.
+//! Every answer, state, record and lent octet is compared; short slices, keys of another length and damaged states have to be refused. `ends LISTS CALLS SEED`.
 
 mod ahead;
 mod as_c;
 mod calls;
 mod damage;
+mod digests;
 mod ends_library;
 mod engine;
 mod forge;
+mod keys;
 mod make;
 mod plant;
 mod random;
+mod set_ups;
 mod state;
 mod tally;
 mod text;
@@ -20,10 +23,11 @@ use ahead::Ahead;
 use calls::Call;
 use curlewreel_outside::message::{read, End};
 use curlewreel_outside::replay::Ends;
+use digests::Digests;
 use ends_library::{Lengths, Run};
 use plant::Plant;
 use random::Random;
-use state::{Places, State, RECORDS};
+use state::{State, RECORDS};
 use tally::{fail, number_of, Tally};
 use transitions::Transitions;
 
@@ -45,6 +49,7 @@ struct List<'a> {
     codes: &'a mut [u64; 13],
     transitions: &'a mut Transitions,
     ahead: &'a mut Ahead,
+    digests: &'a mut Digests,
 }
 
 impl List<'_> {
@@ -108,6 +113,22 @@ impl List<'_> {
         })
     }
 
+    /// One message key has another length: 2, where no earlier question refuses.
+    fn other_length(&mut self, call: &Call, answer: u8) -> Result<(), String> {
+        let (mut call, lengths, state) = (call.clone(), self.lengths(call), self.state.clone());
+        let mut keys = call.message_keys();
+        if keys.is_empty() {
+            return Ok(());
+        }
+        let at = self.r.below(keys.len() as u64) as usize;
+        let (what, key) = &mut keys[at];
+        **key = keys::of_other_length(&mut self.r, key);
+        let (what, length, due) = (*what, key.len(), if answer == 1 { 1 } else { 2 });
+        self.refused(&call, lengths, &state, due).map_err(|e| format!("{what} of {length} octets: {e}"))?;
+        self.digests.add_length(what, length);
+        Ok(())
+    }
+
     /// A call that uses a SAID's record: it has to be one of those in use and to have the suite that the entry names.
     fn unmatched(&mut self, call: &Call, answer: &str) -> Result<(), String> {
         let said = match call {
@@ -125,7 +146,20 @@ impl List<'_> {
                 (0..4).filter(of_said).for_each(|i| listing.suites[i] = if listing.suites[i] == 256 { 768 } else { 256 });
             }
         }
-        self.refused(call, lengths, &state, 1).map_err(|e| format!("the record of SAID {said} is not the entry's: {e}"))
+        let (mut call, mut due) = (call.clone(), 1);
+        // before the length of a key, wherever the digest holds under it: with a zero behind the right one, and not with another octet
+        if let Call::Up { read_key, write_key, .. } = &mut call {
+            match self.r.below(6) {
+                0 => read_key.push(0),
+                1 => write_key.truncate(19),
+                2 => {
+                    read_key.push(1);
+                    due = 2;
+                }
+                _ => {}
+            }
+        }
+        self.refused(&call, lengths, &state, due).map_err(|e| format!("the record of SAID {said} is not the entry's: {e}"))
     }
 
     /// A field of the state, a record or an argument that the text cannot give is out of its limits.
@@ -133,10 +167,6 @@ impl List<'_> {
         let (mut state, mut call) = (self.state.clone(), call.clone());
         let (lengths, out_of_range, ends) = (self.lengths(&call), 2 + self.r.below(254) as u8, call.ends());
         let what = match &mut call {
-            Call::Up { digest, .. } | Call::Down { digest, .. } if self.r.one_in(8) => {
-                *digest = out_of_range;
-                "the digest word"
-            }
             Call::List { allowed, .. } if self.r.one_in(8) => {
                 *allowed = out_of_range;
                 "allowed"
@@ -152,8 +182,12 @@ impl List<'_> {
             .map_err(|e| format!("{what} out of its limits: {e}\n{:?}\n{:?}", state.headend, state.modem))
     }
 
-    /// The call of `line` with the deadlines of the records in use moved ahead at both implementations; `plain` is what it answers without.
-    fn moved_ahead(&mut self, line: &str, call: &Call, mut ends: Ends, plain: &str) -> Result<(), String> {
+    /// The call of `line` with the deadlines of the records in use moved ahead at both implementations; `plain` is what it answers without. A
+    /// Key Request's key has a zero more now and then: the digest holds all the same, and question 1 of the record comes before 2.
+    fn moved_ahead(&mut self, line: &str, mut ends: Ends, plain: &str) -> Result<(), String> {
+        let longer = plain.starts_with("0,08") && self.r.one_in(4);
+        let line = if longer { ahead::longer_key(line) } else { line.to_string() };
+        let call = &Call::parse(&line);
         let (mut state, mut lengths) = (self.state.clone(), self.lengths(call));
         ahead::move_records(&mut self.r, &mut state, &mut ends.head);
         let before = ends.head.clone();
@@ -181,13 +215,16 @@ impl List<'_> {
             self.short(&call, answer).map_err(shown)?;
         }
         if self.r.one_in(3) {
+            self.other_length(&call, answer).map_err(shown)?;
+        }
+        if self.r.one_in(3) {
             self.damaged(&call).map_err(shown)?;
         }
         if self.r.one_in(3) {
             self.unmatched(&call, &wanted).map_err(shown)?;
         }
         if let Some(ends) = before.filter(|ends| call.ends().0 && !ends.head.records.is_empty()) {
-            self.moved_ahead(&line, &call, ends, &wanted).map_err(shown)?;
+            self.moved_ahead(&line, ends, &wanted).map_err(shown)?;
         }
         let lengths = self.lengths(&call);
         let run = Run::new(&self.state, lengths, self.r.next() as u8);
@@ -195,6 +232,7 @@ impl List<'_> {
         self.transitions.add(&self.state.modem, &after.modem);
         self.state = after;
         self.count(&call, answer);
+        self.digests.add(&line, &wanted);
         if matches!((&call, answer), (Call::Up { .. }, 0) | (Call::OpenUp(_), 13)) {
             let code = first_octet(&wanted).map_or(0, usize::from);
             self.codes[code] += 1;
@@ -209,67 +247,20 @@ fn first_octet(answer: &str) -> Option<u8> {
     u8::from_str_radix(octets.get(..2)?, 16).ok()
 }
 
-/// Both ends of the library as fresh as the plant's, with anything in the records and entries that are not in use. Some lists start with
-/// counts of frames near their end and an Identifier near 255.
-fn start(plant: &mut Plant, r: &mut Random) -> State {
-    let (head, modem) = (&mut plant.ends.head, &mut plant.ends.modem);
-    let settings = as_c::settings_of(&head.settings);
-    let h = unsafe { engine::curlewreel_headend_new(settings) };
-    let m = unsafe { engine::curlewreel_modem_new(settings, modem.address, modem.own) };
-    if h.number != 0 || m.number != 0 || h.count != 0 || m.count != 0 {
-        fail("a set-up was refused or wrote octets");
-    }
-    let mut places: Places = [0; RECORDS * std::mem::size_of::<engine::Record>() / 8];
-    places.iter_mut().for_each(|word| *word = r.next());
-    let mut state = State { headend: h.headend, places, modem: m.modem };
-    for entry in &mut state.headend.entries {
-        (entry.address, entry.allowed, entry.listing.count, entry.keys.next) =
-            (r.next(), r.next() as u8, r.next() as usize, r.next() as u8);
-    }
-    if r.one_in(10) {
-        let near = u64::MAX - r.below(3);
-        (head.taken, head.refused, modem.taken, modem.refused) = (near, near, near, near);
-        (modem.counter, state.modem.counter) = (250, 250);
-        (state.headend.taken, state.headend.refused, state.modem.taken, state.modem.refused) = (near, near, near, near);
-    }
-    state
-}
-
-/// Set-ups out of their limits are refused with 1, and hand back an end that is all zero.
-fn wrong_set_ups(r: &mut Random) {
-    let good = engine::Settings { tek_life: 1_800, tek_grace: 300, ak_life: 86_400, ak_grace: 300, ..Default::default() };
-    let good = engine::Settings { authorize: 10, reauthorize: 10, operational: 10, rekey: 10, reject: 60, ..good };
-    for _ in 0..200 {
-        let mut settings = good;
-        damage::settings(r, &mut settings);
-        let h = unsafe { engine::curlewreel_headend_new(settings) };
-        let m = unsafe { engine::curlewreel_modem_new(settings, 1, 1) };
-        let zero = h.headend == engine::Headend::default() && m.modem == engine::Modem::default();
-        if (h.number, m.number, h.count, m.count) != (1, 1, 0, 0) || !zero {
-            fail(&format!("a set-up out of its limits: {settings:?}: head-end {}, modem {}", h.number, m.number));
-        }
-    }
-    for (address, said) in [(1 << 48, 1), (u64::MAX, 1), (1, 16_384), (1, 65_535)] {
-        let m = unsafe { engine::curlewreel_modem_new(good, address, said) };
-        if m.number != 1 || m.count != 0 || m.modem != engine::Modem::default() {
-            fail(&format!("a modem of address {address} and SAID {said}: {}", m.number));
-        }
-    }
-}
-
 fn main() {
     let mut args = std::env::args().skip(1).map(|a| a.parse::<u64>().expect("a number"));
     let (lists, calls, seed) = (args.next().unwrap_or(500), args.next().unwrap_or(400), args.next().unwrap_or(1));
     let (mut headend, mut modem, mut codes, mut transitions) = (Tally::default(), Tally::default(), [0; 13], Transitions::default());
-    let mut ahead = Ahead::default();
-    wrong_set_ups(&mut Random(seed));
+    let (mut ahead, mut digests) = (Ahead::default(), Digests::default());
+    set_ups::wrong_set_ups(&mut Random(seed));
     for i in 0..lists {
         let (mut plant, _) = Plant::new(seed + i);
         let mut r = Random(!(seed + i));
-        let state = start(&mut plant, &mut r);
-        let (headend, modem, codes, transitions, ahead) = (&mut headend, &mut modem, &mut codes, &mut transitions, &mut ahead);
-        let mut list = List { plant, state, r, headend, modem, codes, transitions, ahead };
-        for at in 0..plant::calls_of(seed + i, calls) {
+        let state = set_ups::start(&mut plant, &mut r);
+        let (headend, modem, codes, transitions) = (&mut headend, &mut modem, &mut codes, &mut transitions);
+        let (ahead, digests) = (&mut ahead, &mut digests);
+        let mut list = List { plant, state, r, headend, modem, codes, transitions, ahead, digests };
+        for at in 0..plant::lists::calls_of(seed + i, calls) {
             if let Err(e) = list.next() {
                 fail(&format!("differs, list {}, call {at}: {e}", seed + i));
             }
@@ -286,4 +277,5 @@ fn main() {
     modem.told("the modem", &OF_MODEM);
     transitions.told();
     ahead.told();
+    digests.told("both ends");
 }

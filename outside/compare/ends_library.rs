@@ -43,6 +43,11 @@ impl Lent {
     }
 }
 
+/// Octets that a call reads.
+fn lent(octets: &[u8]) -> (*const u8, usize) {
+    (octets.as_ptr(), octets.len())
+}
+
 fn sent(number: u8, out: String) -> Answer {
     match number {
         0 => Ok((0, format!("0,{out}"))),
@@ -88,14 +93,16 @@ impl Run {
     pub fn call(&mut self, call: &Call) -> Answer {
         match call {
             Call::List { address, allowed, listing, material } => self.list(*address, *allowed, *listing, material),
-            Call::Clock { second, material } => self.clock(*second, material),
-            Call::Up { address, digest, auth_key, octets } => self.up(*address, *digest, auth_key, octets),
+            Call::Clock { second, material, write_key } => self.clock(*second, material, write_key),
+            Call::Up { address, read_key, write_key, auth_key, octets } => self.up(*address, [read_key, write_key], auth_key, octets),
             Call::SealDown { address, said } => self.seal_down(*address, *said),
             Call::OpenUp(frame) => self.open_up(frame),
             Call::Established => self.sends(|m, out, n| unsafe { curlewreel_modem_established(m, out, n) }),
             Call::Reauth => self.sends(|m, out, n| unsafe { curlewreel_modem_reauth(m, out, n) }),
-            Call::Down { digest, octets } => {
-                self.sends(|m, out, n| unsafe { curlewreel_modem_receive(m, octets.as_ptr(), octets.len(), *digest, out, n) })
+            Call::Down { read_key, write_key, octets } => {
+                let ((read, read_len), (write, write_len)) = (lent(read_key), lent(write_key));
+                let (message, length) = lent(octets);
+                self.sends(|m, out, n| unsafe { curlewreel_modem_receive(m, message, length, read, read_len, write, write_len, out, n) })
             }
             Call::SealUp { said } => self.seal_up(*said),
             Call::OpenDown(frame) => self.open_down(frame),
@@ -135,12 +142,13 @@ impl Run {
     }
 
     /// Refused for both where either refuses; the earlier question gives the number.
-    fn clock(&mut self, second: u64, material: &[u8]) -> Answer {
+    fn clock(&mut self, second: u64, material: &[u8], write_key: &[u8]) -> Answer {
         let before = self.state.clone();
         let (records, n) = (self.records_mut(), self.lengths.records);
         let h = unsafe { curlewreel_headend_clock(before.headend, records, n, second, material.as_ptr(), material.len()) };
         let (out, room) = self.out.lend();
-        let m = unsafe { curlewreel_modem_clock(before.modem, second, out, room) };
+        let (key, key_len) = lent(write_key);
+        let m = unsafe { curlewreel_modem_clock(before.modem, second, key, key_len, out, room) };
         let (messages, unwritten) = (self.out.written(m.count)?, m.number == 0 || m.count == 0);
         if h.number != 0 && (h.headend != before.headend || self.state.places != before.places) {
             return Err("the head-end refused the clock and changed".to_string());
@@ -156,11 +164,29 @@ impl Run {
         sent(0, messages)
     }
 
-    fn up(&mut self, address: u64, digest: u8, auth_key: &[u8], octets: &[u8]) -> Answer {
+    fn up(&mut self, address: u64, keys: [&[u8]; 2], auth_key: &[u8], octets: &[u8]) -> Answer {
         let (h, records, n) = (self.state.headend, self.records(), self.lengths.records);
-        let (message, length, key, key_length) = (octets.as_ptr(), octets.len(), auth_key.as_ptr(), auth_key.len());
+        let ((message, length), (auth_key, auth_key_len)) = (lent(octets), lent(auth_key));
+        let [(read, read_len), (write, write_len)] = keys.map(lent);
         let (out, room) = self.out.lend();
-        let c = unsafe { curlewreel_headend_receive(h, records, n, address, message, length, digest, key, key_length, out, room) };
+        let c = unsafe {
+            curlewreel_headend_receive(
+                h,
+                records,
+                n,
+                address,
+                message,
+                length,
+                read,
+                read_len,
+                write,
+                write_len,
+                auth_key,
+                auth_key_len,
+                out,
+                room,
+            )
+        };
         self.state.headend = c.headend;
         sent(c.number, self.out.written(c.count)?)
     }
@@ -176,8 +202,10 @@ impl Run {
         let (h, records, n) = (self.state.headend, self.records(), self.lengths.records);
         let ((tek, tek_len), (vector, vector_len), (out, room)) = (self.tek.lend(), self.vector.lend(), self.out.lend());
         let o = unsafe {
-            let (direction, address, said, number) = (f.direction, f.address, f.said, f.number);
-            curlewreel_headend_open(h, records, n, direction, address, said, number, tek, tek_len, vector, vector_len, out, room)
+            let (direction, address, said, number, (key, key_len)) = (f.direction, f.address, f.said, f.number, lent(&f.write_key));
+            curlewreel_headend_open(
+                h, records, n, direction, address, said, number, key, key_len, tek, tek_len, vector, vector_len, out, room,
+            )
         };
         self.state.headend = o.headend;
         opened(o.number, self.tek.written(o.width)?, self.vector.written(o.width)?, self.out.written(o.count)?)
@@ -200,7 +228,8 @@ impl Run {
         let ((tek, tek_len), (vector, vector_len), (out, room)) = (self.tek.lend(), self.vector.lend(), self.out.lend());
         let o = unsafe {
             let (m, direction, address, said, number) = (self.state.modem, f.direction, f.address, f.said, f.number);
-            curlewreel_modem_open(m, direction, address, said, number, tek, tek_len, vector, vector_len, out, room)
+            let (key, key_len) = lent(&f.write_key);
+            curlewreel_modem_open(m, direction, address, said, number, key, key_len, tek, tek_len, vector, vector_len, out, room)
         };
         self.state.modem = o.modem;
         opened(o.number, self.tek.written(o.width)?, self.vector.written(o.width)?, self.out.written(o.count)?)

@@ -175,12 +175,22 @@ extern "C" {
         vector: *mut u8,
         vector_len: usize,
     ) -> u8;
-    pub fn curlewreel_read(end: u8, message: *const u8, message_len: usize, fields: *mut u8, fields_len: usize) -> u8;
+    pub fn curlewreel_read(
+        end: u8,
+        message: *const u8,
+        message_len: usize,
+        read_key: *const u8,
+        read_key_len: usize,
+        fields: *mut u8,
+        fields_len: usize,
+    ) -> u8;
     pub fn curlewreel_write(
         fields: *const u8,
         fields_len: usize,
         auth_key: *const u8,
         auth_key_len: usize,
+        write_key: *const u8,
+        write_key_len: usize,
         out: *mut u8,
         out_len: usize,
     ) -> Written;
@@ -188,12 +198,15 @@ extern "C" {
     pub fn curlewreel_modem_new(settings: Settings, address: u64, said: u16) -> ModemCall;
     pub fn curlewreel_modem_established(m: Modem, out: *mut u8, out_len: usize) -> ModemCall;
     pub fn curlewreel_modem_reauth(m: Modem, out: *mut u8, out_len: usize) -> ModemCall;
-    pub fn curlewreel_modem_clock(m: Modem, second: u64, out: *mut u8, out_len: usize) -> ModemCall;
+    pub fn curlewreel_modem_clock(m: Modem, second: u64, key: *const u8, key_len: usize, out: *mut u8, out_len: usize) -> ModemCall;
     pub fn curlewreel_modem_receive(
         m: Modem,
         message: *const u8,
         message_len: usize,
-        digest: u8,
+        read_key: *const u8,
+        read_key_len: usize,
+        write_key: *const u8,
+        write_key_len: usize,
         out: *mut u8,
         out_len: usize,
     ) -> ModemCall;
@@ -204,6 +217,8 @@ extern "C" {
         address: u64,
         said: u16,
         number: u8,
+        write_key: *const u8,
+        write_key_len: usize,
         tek: *mut u8,
         tek_len: usize,
         vector: *mut u8,
@@ -238,7 +253,10 @@ extern "C" {
         address: u64,
         message: *const u8,
         message_len: usize,
-        digest: u8,
+        read_key: *const u8,
+        read_key_len: usize,
+        write_key: *const u8,
+        write_key_len: usize,
         auth_key: *const u8,
         auth_key_len: usize,
         out: *mut u8,
@@ -263,6 +281,8 @@ extern "C" {
         address: u64,
         said: u16,
         number: u8,
+        write_key: *const u8,
+        write_key_len: usize,
         tek: *mut u8,
         tek_len: usize,
         vector: *mut u8,

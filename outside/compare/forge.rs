@@ -46,7 +46,7 @@ fn to_authorization_request(r: &mut Random, asked: &Fields, saids: &[u64]) -> Fi
     Fields { code: 5, ak_number: r.below(16) as u8, life: 1 + r.below(most) as u32, descriptors, ..plain }
 }
 
-/// An answer to a message of the modem's.
+/// An answer to a message of the modem's, with a digest of any key.
 pub fn answer(r: &mut Random, request: &[u8], saids: &[u64]) -> Vec<u8> {
     let asked = read(End::HeadEnd, request).map(|m| m.fields).unwrap_or_default();
     let fields = match asked.code {
@@ -55,6 +55,6 @@ pub fn answer(r: &mut Random, request: &[u8], saids: &[u64]) -> Vec<u8> {
         _ => Fields { code: 10, error: r.below(7) as u8, ..Fields::default() },
     };
     let n = 1 + r.below(20) as usize;
-    let key = r.octets(n);
-    write(&fields, &key, 400).expect("a message within the limits")
+    let (auth_key, write_key) = (r.octets(n), r.octets(20));
+    write(&fields, &auth_key, &write_key, 400).expect("a message within the limits")
 }

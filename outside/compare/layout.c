@@ -10,6 +10,8 @@
 static const curlewreel_settings settings = {.tek_life = 1800, .tek_grace = 301, .ak_life = 86402, .ak_grace = 303, .authorize = 11,
     .reauthorize = 12, .operational = 13, .rekey = 14, .reject = 15};
 static const uint8_t auth_key[1] = {9};
+/* The message keys of what goes up and of what goes down, whichever the authorization key is. */
+static const uint8_t key_up[20] = {1}, key_down[20] = {2};
 static curlewreel_headend h;
 static curlewreel_modem m;
 static curlewreel_record records[64];
@@ -49,9 +51,9 @@ static size_t modem(curlewreel_modem_call c) {
 static size_t exchange(uint64_t address, const uint8_t *message, size_t n) {
     uint8_t copy[64];
     memcpy(copy, message, n);
-    size_t count = head(curlewreel_headend_receive(h, records, 64, address, copy, n, 1, auth_key, 1, answer, sizeof answer));
+    size_t count = head(curlewreel_headend_receive(h, records, 64, address, copy, n, key_up, 20, key_down, 20, auth_key, 1, answer, sizeof answer));
     same("an answer has its own length", count, 4 + ((size_t)answer[2] << 8 | answer[3]));
-    return modem(curlewreel_modem_receive(m, answer, count, 1, out, sizeof out));
+    return modem(curlewreel_modem_receive(m, answer, count, key_down, 20, key_up, 20, out, sizeof out));
 }
 
 /* A key against its 32 octets of material, of which `width` count. */
@@ -108,7 +110,7 @@ static void authorizes(void) {
     SAME(m.address, 271);
     SAME(m.said, 77);
     SAME(m.authorization.state, 0);
-    SAME(modem(curlewreel_modem_clock(m, 100, out, sizeof out)), 0);
+    SAME(modem(curlewreel_modem_clock(m, 100, key_up, 20, out, sizeof out)), 0);
     SAME(m.clock, 100);
     SAME(modem(curlewreel_modem_established(m, out, sizeof out)), 13);
     SAME(m.authorization.state, 1);
@@ -159,7 +161,7 @@ static void rolls(void) {
     SAME(h.entries[15].keys.older, 100 + 86402);
     SAME(h.entries[15].keys.newer, 100 + 2 * 86402);
     head(curlewreel_headend_clock(h, records, 64, 1499, material, sizeof material));
-    SAME(modem(curlewreel_modem_clock(m, 1499, out, sizeof out)), 144);
+    SAME(modem(curlewreel_modem_clock(m, 1499, key_up, 20, out, sizeof out)), 144);
     SAME(m.teks[3].state, 4);
     SAME(m.teks[3].timer.at, 1499 + 14);
     SAME(m.teks[3].identifier, 10);
@@ -187,7 +189,8 @@ static void frames(void) {
     SAME(s.width, 8);
     OCTETS(vector, m.teks[1].newer.vector, 8);
     for (int i = 0; i < 4; i++) {
-        curlewreel_headend_opening o = curlewreel_headend_open(h, records, 64, 0, 271, said_of(61), i == 2 ? 9 : 2, tek, 16, vector, 16, out, 40);
+        curlewreel_headend_opening o =
+            curlewreel_headend_open(h, records, 64, 0, 271, said_of(61), i == 2 ? 9 : 2, key_down, 20, tek, 16, vector, 16, out, 40);
         SAME(o.number, i == 2 ? 13 : 0);
         SAME(o.width, i == 2 ? 0 : 8);
         SAME(o.count, i == 2 ? 40 : 0);
@@ -196,7 +199,7 @@ static void frames(void) {
     SAME(h.taken, 3);
     SAME(h.refused, 1);
     for (int i = 0; i < 3; i++) {
-        curlewreel_modem_opening o = curlewreel_modem_open(m, 1, 271, said_of(61), i == 2 ? 9 : 1, tek, 16, vector, 16, out, 216);
+        curlewreel_modem_opening o = curlewreel_modem_open(m, 1, 271, said_of(61), i == 2 ? 9 : 1, key_up, 20, tek, 16, vector, 16, out, 216);
         SAME(o.number, i == 2 ? 13 : 0);
         SAME(o.width, i == 2 ? 0 : 8);
         SAME(o.count, i == 2 ? 36 : 0);
@@ -206,6 +209,29 @@ static void frames(void) {
     SAME(m.refused, 1);
 }
 
+/* The header's places in a message's fields: whether the digest holds is the last octet. */
+static void fields_of_messages(void) {
+    uint8_t fields[CURLEWREEL_FIELDS_WRITTEN] = {12}, back[CURLEWREEL_FIELDS];
+    curlewreel_written w = curlewreel_write(fields, sizeof fields, auth_key, 0, key_up, 20, out, sizeof out);
+    SAME(w.number, 0);
+    SAME(w.count, 4);
+    fields[CURLEWREEL_FIELD_CODE] = 13;
+    SAME(curlewreel_write(fields, sizeof fields, auth_key, 0, key_up, 20, out, sizeof out).number, 1);
+    fields[CURLEWREEL_FIELD_CODE] = 7;
+    fields[CURLEWREEL_FIELD_AK_NUMBER] = 5;
+    SAME(curlewreel_write(fields, sizeof fields, auth_key, 0, key_up, 19, out, sizeof out).number, 2);
+    w = curlewreel_write(fields, sizeof fields, auth_key, 0, key_up, 20, out, sizeof out);
+    SAME(w.count, 36);
+    SAME(curlewreel_read(CURLEWREEL_HEAD_END, out, w.count, key_up, 20, back, sizeof back), 0);
+    OCTETS(back, fields, CURLEWREEL_FIELDS_WRITTEN);
+    SAME(back[CURLEWREEL_FIELD_DIGEST_START + 1], 16);
+    SAME(back[CURLEWREEL_FIELD_DIGEST_LENGTH + 1], 20);
+    SAME(back[CURLEWREEL_FIELD_DIGEST_HOLDS], CURLEWREEL_DIGEST_YES);
+    SAME(curlewreel_read(CURLEWREEL_HEAD_END, out, w.count, key_down, 20, back, sizeof back), 0);
+    SAME(back[CURLEWREEL_FIELD_DIGEST_HOLDS], CURLEWREEL_DIGEST_NO);
+    SAME(curlewreel_read(CURLEWREEL_HEAD_END, out, w.count, key_up, 19, back, sizeof back), 2);
+}
+
 #include "layout_given.h"
 
 int main(int argc, char **argv) {
@@ -213,12 +239,7 @@ int main(int argc, char **argv) {
         table();
         return 0;
     }
-    uint8_t fields[CURLEWREEL_FIELDS_WRITTEN] = {12};
-    curlewreel_written w = curlewreel_write(fields, sizeof fields, auth_key, 0, out, sizeof out);
-    SAME(w.number, 0);
-    SAME(w.count, 4);
-    fields[0] = 13;
-    SAME(curlewreel_write(fields, sizeof fields, auth_key, 0, out, sizeof out).number, 1);
+    fields_of_messages();
     lists();
     authorizes();
     exchanges();

@@ -64,22 +64,22 @@ static void given_to_modem(void) {
     d.teks[3].older.vector[15] = 92;
     d.teks[3].newer.tek[15] = 93;
     d.teks[3].newer.vector[15] = 94;
-    SAME(curlewreel_modem_clock(d, 1513, out, sizeof out).count, 144);
+    SAME(curlewreel_modem_clock(d, 1513, key_up, 20, out, sizeof out).count, 144);
     same("teks[2].identifier in a Key Request sent again", out[36 * 2 + 1], 44);
     curlewreel_modem_call c = curlewreel_modem_reauth(d, out, sizeof out);
     same("counter and one in a new request", out[1], 200);
     SAME(c.modem.authorization.identifier, 200);
-    c = curlewreel_modem_clock(c.modem, 1511, out, sizeof out);
+    c = curlewreel_modem_clock(c.modem, 1511, key_up, 20, out, sizeof out);
     same("authorization.identifier in a request sent again", out[1], 200);
-    curlewreel_modem_opening o = curlewreel_modem_open(d, 1, 271, said_of(63), 0, tek, 16, vector, 16, out, 216);
+    curlewreel_modem_opening o = curlewreel_modem_open(d, 1, 271, said_of(63), 0, key_up, 20, tek, 16, vector, 16, out, 216);
     SAME(o.modem.taken, 1001);
     SAME(o.modem.refused, 2000);
     same("older.tek opens", tek[15], 91);
     same("older.vector opens", vector[15], 92);
-    o = curlewreel_modem_open(d, 1, 271, said_of(63), 1, tek, 16, vector, 16, out, 216);
+    o = curlewreel_modem_open(d, 1, 271, said_of(63), 1, key_up, 20, tek, 16, vector, 16, out, 216);
     same("newer.tek opens", tek[15], 93);
     same("newer.vector opens", vector[15], 94);
-    o = curlewreel_modem_open(d, 1, 272, said_of(63), 1, tek, 16, vector, 16, out, 216);
+    o = curlewreel_modem_open(d, 1, 272, said_of(63), 1, key_up, 20, tek, 16, vector, 16, out, 216);
     SAME(o.modem.refused, 2001);
 }
 
@@ -117,13 +117,13 @@ static void given_to_headend(void) {
     records[62].older.vector[15] = 92;
     records[62].newer.tek[15] = 93;
     records[62].newer.vector[15] = 94;
-    curlewreel_headend_opening o = curlewreel_headend_open(d, records, 64, 0, 271, said_of(62), 1, tek, 16, vector, 16, out, 40);
+    curlewreel_headend_opening o = curlewreel_headend_open(d, records, 64, 0, 271, said_of(62), 1, key_down, 20, tek, 16, vector, 16, out, 40);
     SAME(o.headend.taken, 1001);
     same("a record's older.tek opens", tek[15], 91);
     same("a record's older.vector opens", vector[15], 92);
-    o = curlewreel_headend_open(d, records, 64, 0, 271, said_of(62), 2, tek, 16, vector, 16, out, 40);
+    o = curlewreel_headend_open(d, records, 64, 0, 271, said_of(62), 2, key_down, 20, tek, 16, vector, 16, out, 40);
     same("a record's newer.tek opens", tek[15], 93);
     same("a record's newer.vector opens", vector[15], 94);
-    o = curlewreel_headend_open(d, records, 64, 0, 271, said_of(1), 2, tek, 16, vector, 16, out, 40);
+    o = curlewreel_headend_open(d, records, 64, 0, 271, said_of(1), 2, key_down, 20, tek, 16, vector, 16, out, 40);
     SAME(o.headend.refused, 2001);
 }

@@ -7,7 +7,8 @@ use curlewreel_outside::frame::Pair;
 use curlewreel_outside::message::{Descriptor, Fields, Params, Reading};
 
 pub const WRITTEN: usize = 109;
-pub const FIELDS: usize = 117;
+pub const HOLDS: usize = 117;
+pub const FIELDS: usize = 118;
 
 pub fn frame(p: &Pair, keys: &[u8], tek: &mut [u8], vector: &mut [u8]) -> u8 {
     unsafe {
@@ -29,12 +30,14 @@ pub fn frame(p: &Pair, keys: &[u8], tek: &mut [u8], vector: &mut [u8]) -> u8 {
     }
 }
 
-pub fn read(end: u8, message: &[u8], fields: &mut [u8]) -> u8 {
-    unsafe { curlewreel_read(end, message.as_ptr(), message.len(), fields.as_mut_ptr(), fields.len()) }
+pub fn read(end: u8, message: &[u8], read_key: &[u8], fields: &mut [u8]) -> u8 {
+    let (key, key_len) = (read_key.as_ptr(), read_key.len());
+    unsafe { curlewreel_read(end, message.as_ptr(), message.len(), key, key_len, fields.as_mut_ptr(), fields.len()) }
 }
 
-pub fn write(fields: &[u8], auth_key: &[u8], out: &mut [u8]) -> Written {
-    unsafe { curlewreel_write(fields.as_ptr(), fields.len(), auth_key.as_ptr(), auth_key.len(), out.as_mut_ptr(), out.len()) }
+pub fn write(fields: &[u8], auth_key: &[u8], write_key: &[u8], out: &mut [u8]) -> Written {
+    let ((auth_key, auth_key_len), (key, key_len)) = ((auth_key.as_ptr(), auth_key.len()), (write_key.as_ptr(), write_key.len()));
+    unsafe { curlewreel_write(fields.as_ptr(), fields.len(), auth_key, auth_key_len, key, key_len, out.as_mut_ptr(), out.len()) }
 }
 
 fn put_params(out: &mut Vec<u8>, p: &Params) {
@@ -65,12 +68,14 @@ pub fn laid_out(f: &Fields) -> Vec<u8> {
     out
 }
 
-/// The 117 octets of a reading.
-pub fn laid_out_reading(r: &Reading) -> Vec<u8> {
+/// The 118 octets of a reading; the last says whether the digest holds.
+pub fn laid_out_reading(r: &Reading, holds: bool) -> Vec<u8> {
     let mut out = laid_out(&r.fields);
     for n in [r.auth_key.0, r.auth_key.1, r.digest.0, r.digest.1] {
         out.extend((n as u16).to_be_bytes());
     }
+    assert_eq!(out.len(), HOLDS);
+    out.push(u8::from(holds));
     assert_eq!(out.len(), FIELDS);
     out
 }

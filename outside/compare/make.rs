@@ -3,6 +3,8 @@
 #![allow(dead_code)]
 
 use crate::random::Random;
+use curlewreel_outside::digest::{hmac, DIGEST};
+use curlewreel_outside::message::{read, End};
 
 const TYPES: [u8; 14] = [7, 8, 9, 10, 11, 12, 13, 15, 16, 20, 23, 24, 1, 99];
 
@@ -208,22 +210,65 @@ pub fn damage(r: &mut Random, out: &mut Vec<u8>) {
     }
 }
 
-/// A message's own attributes in another order, or one of them left out, doubled, put in or cut; Length as the rest has it.
-pub fn rearrange(r: &mut Random, out: &mut Vec<u8>) {
-    let (mut parts, mut rest) = (Vec::new(), &out[4..]);
+/// A message's own attributes, each with its type and length.
+fn parts_of(out: &[u8]) -> Vec<Vec<u8>> {
+    let (mut parts, mut rest) = (Vec::new(), out.get(4..).unwrap_or_default());
     while rest.len() >= 3 {
         let n = (3 + usize::from(rest[1]) * 256 + usize::from(rest[2])).min(rest.len());
         parts.push(rest[..n].to_vec());
         rest = &rest[n..];
     }
+    parts
+}
+
+/// Puts these attributes into the message; Length as they have it.
+fn put_parts(out: &mut Vec<u8>, parts: &[Vec<u8>]) {
+    let body = parts.concat();
+    out.truncate(2);
+    out.extend((body.len() as u16).to_be_bytes());
+    out.extend(body);
+}
+
+/// A message's own attributes in another order, or one of them left out, doubled, put in or cut.
+pub fn rearrange(r: &mut Random, out: &mut Vec<u8>) {
+    let mut parts = parts_of(out);
     if parts.len() > 1 && r.one_in(2) {
         let (a, b) = (r.below(parts.len() as u64) as usize, r.below(parts.len() as u64) as usize);
         parts.swap(a, b);
     } else {
         (0..4).for_each(|_| disturb(r, &mut parts));
     }
-    let body = parts.concat();
-    out.truncate(2);
-    out.extend((body.len() as u16).to_be_bytes());
-    out.extend(body);
+    put_parts(out, &parts);
+}
+
+/// One to three attributes that are skipped, somewhere before the last one: of types that no message needs.
+pub fn put_skipped(r: &mut Random, out: &mut Vec<u8>) {
+    let mut parts = parts_of(out);
+    for _ in 0..1 + r.below(3) {
+        let (at, n) = (r.below(parts.len().max(1) as u64) as usize, r.pick(&[0, 1, 8, 60, 200]));
+        let kind = r.pick(&[0, 1, 5, 14, 99, 127, 255]);
+        parts.insert(at, tlv(kind, &r.octets(n)));
+    }
+    put_parts(out, &parts);
+}
+
+/// Where the digest's octets stand, if the message can be read and carries one.
+pub fn digest_place(octets: &[u8]) -> Option<usize> {
+    let end = if matches!(octets.first(), Some(4 | 7 | 12)) { End::HeadEnd } else { End::Modem };
+    read(end, octets).ok().filter(|m| m.digest.1 == DIGEST).map(|m| m.digest.0)
+}
+
+/// Makes the digest right under a key.
+pub fn digest_anew(octets: &mut [u8], key: &[u8]) {
+    if let Some(at) = digest_place(octets) {
+        let digest = hmac(key, &octets[..at - 3]);
+        octets[at..at + DIGEST].copy_from_slice(&digest);
+    }
+}
+
+/// Changes one bit of the digest.
+pub fn spoil_digest(r: &mut Random, octets: &mut [u8]) {
+    if let Some(at) = digest_place(octets) {
+        octets[at + r.below(DIGEST as u64) as usize] ^= 1 << r.below(8);
+    }
 }

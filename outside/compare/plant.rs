@@ -1,13 +1,17 @@
 //! A plant: random lists of calls, worked out with the outside implementation. Copies of messages and frames come late, twice, in another
-//! order and damaged; listings and clocks are refused now and then; some lines are no calls.
+//! order and damaged, with right and with wrong keys; listings and clocks are refused now and then; some lines are no calls.
 // each program uses a part of it
 #![allow(dead_code)]
 
-use crate::forge;
-use crate::make;
+use crate::keys::AuthKeys;
 use crate::random::Random;
 use crate::text;
 use curlewreel_outside::replay::Ends;
+
+#[path = "plant_lists.rs"]
+pub mod lists;
+#[path = "plant_messages.rs"]
+mod messages;
 
 /// A message put out, or a frame sealed: its fields direction, address, SAID, number.
 #[derive(Clone)]
@@ -28,6 +32,7 @@ pub struct Plant {
     up: Vec<Vec<u8>>,
     down: Vec<Vec<u8>>,
     frames: Vec<Frame>,
+    auth_keys: AuthKeys,
     first: bool,
 }
 
@@ -54,12 +59,13 @@ impl Plant {
     /// A plant of a seed, and the four lines of its set-up.
     pub fn new(seed: u64) -> (Plant, String) {
         let mut r = Random(seed);
-        let (input, life, aklife, address) = set_up(&mut r);
+        let (input, life, aklife, address) = lists::set_up(&mut r);
         let ends = Ends::start(&input.as_bytes().split(|c| *c == b'\n').collect::<Vec<_>>()).expect("a start");
         // by the seed itself, so that a few lists have each kind
         let (listings, far) = (if seed % 8 == 3 { 30 } else { 2 }, seed % 12 == 7);
         let (saids, up, down, frames) = (Vec::new(), Vec::new(), Vec::new(), Vec::new());
-        (Plant { r, ends, life, aklife, address, clock: 0, listings, far, saids, up, down, frames, first: true }, input)
+        let auth_keys = AuthKeys::default();
+        (Plant { r, ends, life, aklife, address, clock: 0, listings, far, saids, up, down, frames, auth_keys, first: true }, input)
     }
 
     /// The next call, and what the outside implementation answers.
@@ -146,47 +152,7 @@ impl Plant {
         // now and then two questions are not met, one of them by both ends
         let seldom = if t < self.clock || t > last { 4 } else { 40 };
         let n = if self.r.one_in(seldom) { self.r.below(200) as usize } else { 64 * self.saids.len() };
-        format!("clock,{t},{}", hex(&self.r.octets(n)))
-    }
-
-    /// A copy, sometimes damaged; or a message of any kind.
-    fn copy(&mut self, up: bool) -> Vec<u8> {
-        let n = if up { self.up.len() } else { self.down.len() };
-        let Some(at) = self.place(n).filter(|_| !self.r.one_in(20)) else {
-            return make::message(&mut self.r);
-        };
-        if !up && self.r.one_in(10) {
-            return self.forged();
-        }
-        let mut octets = if up { self.up[at].clone() } else { self.down[at].clone() };
-        match self.r.below(30) {
-            0..=2 => make::damage(&mut self.r, &mut octets),
-            3 => make::rearrange(&mut self.r, &mut octets),
-            4 => octets.extend(octets.clone()),
-            _ => {}
-        }
-        if self.r.one_in(25) && octets.len() > 1 {
-            octets[1] = octets[1].wrapping_add(self.r.pick(&[1, 255]));
-        }
-        octets
-    }
-
-    /// An answer to one of the modem's messages that the head-end did not give.
-    fn forged(&mut self) -> Vec<u8> {
-        let at = self.place(self.up.len());
-        let request = at.map_or(vec![], |at| self.up[at].clone());
-        forge::answer(&mut self.r, &request, &self.saids)
-    }
-
-    fn message(&mut self, up: bool) -> String {
-        let digest = u64::from(!self.r.one_in(25));
-        let octets = hex(&self.copy(up));
-        if !up {
-            return format!("down,{digest},{octets}");
-        }
-        let n = if self.r.one_in(25) { self.r.pick(&[0, 256, 257]) } else { 1 + self.r.below(20) as usize };
-        let key = hex(&self.r.octets(n));
-        format!("up,{},{digest},{key},{octets}", self.some_address())
+        format!("clock,{t},{},{}", hex(&self.r.octets(n)), self.request_key())
     }
 
     fn frame(&mut self) -> String {
@@ -201,7 +167,8 @@ impl Plant {
             3 | 4 => number = self.r.below(17),
             _ => {}
         }
-        format!("{receiver},{direction},{address},{said},{number}")
+        let key = if receiver == "openup" { self.invalid_key(address) } else { self.request_key() };
+        format!("{receiver},{direction},{address},{said},{number},{key}")
     }
 
     fn call(&mut self) -> String {
@@ -230,66 +197,18 @@ impl Plant {
                 self.clock = number(1);
                 self.up.extend(apart(&unhex(given[1])));
             }
-            ("established" | "reauth" | "down", "0") | ("opendown", "13") => self.up.extend(apart(&unhex(given[1]))),
-            ("up", "0") | ("openup", "13") => self.down.extend(apart(&unhex(given[1]))),
+            ("established" | "reauth", "0") | ("opendown", "13") => self.up.extend(apart(&unhex(given[1]))),
+            ("down", "0") => {
+                self.keep_auth_key(None, &unhex(fields[3]));
+                self.up.extend(apart(&unhex(given[1])));
+            }
+            ("up", "0") | ("openup", "13") => {
+                self.keep_auth_key(Some(number(if fields[0] == "up" { 1 } else { 2 })), &unhex(given[1]));
+                self.down.extend(apart(&unhex(given[1])));
+            }
             ("sealdown", "0") => self.frames.push(Frame(1, number(1), number(2), given[1].parse().expect("a number"))),
             ("sealup", "0") => self.frames.push(Frame(0, self.address, number(1), given[1].parse().expect("a number"))),
             _ => {}
         }
     }
-}
-
-fn set_up(r: &mut Random) -> (String, u64, u64, u64) {
-    let longest = r.one_in(16);
-    let life = if r.one_in(4) { 1_800 + 2 * r.below(3_000) } else { 1_800 };
-    let life = if longest { 604_800 } else { life };
-    let (grace, aklife) = (300 + r.below(life / 2 - 300), 86_400 + r.below(5_000));
-    let aklife = if longest { 6_048_000 } else { aklife };
-    let akgrace = 300 + r.below(aklife / 2 - 299);
-    let mut wait = || {
-        let most = r.pick(&[20, 600]);
-        (1 + r.below(most)).to_string()
-    };
-    let waits: Vec<String> = (0..5).map(|_| wait()).collect();
-    let address = 1_000 + r.below(1 << 40);
-    let text = format!(
-        "life,grace,aklife,akgrace,authorize,reauthorize,operational,rekey,reject\n{life},{grace},{aklife},{akgrace},{}\naddress,said\n{address},{}\n",
-        waits.join(","),
-        r.below(16_384)
-    );
-    (text, life, aklife, address)
-}
-
-/// How many calls a list has: one list in twenty has twelve times as many, so that Identifiers and key numbers come round.
-pub fn calls_of(seed: u64, calls: u64) -> u64 {
-    if seed.is_multiple_of(20) {
-        12 * calls
-    } else {
-        calls
-    }
-}
-
-/// A whole list with its answers. One in eight has a set-up that is wrong, and then the answers are what is printed instead; some have no
-/// line end at the end.
-pub fn list(seed: u64, calls: u64) -> (String, String) {
-    let (mut plant, mut input) = Plant::new(seed);
-    let mut output = String::new();
-    let mut r = Random(!seed);
-    let wrong = seed % 8 == 5;
-    if wrong {
-        input = text::wrong_start(&mut r, seed / 8, &input);
-    }
-    for _ in 0..calls {
-        let (call, answer) = plant.next();
-        input += &(call + "\n");
-        output += &(answer + "\n");
-    }
-    output += &plant.frames();
-    if r.one_in(4) {
-        input.pop();
-    }
-    if wrong {
-        output = curlewreel_outside::replay::replay(input.as_bytes());
-    }
-    (input, output)
 }

@@ -1,12 +1,15 @@
 //! A program that replays calls against the outside implementation, line by line: `replays LISTS CALLS SEED PROGRAM`.
 
+mod digests;
 mod forge;
+mod keys;
 mod make;
 mod plant;
 mod random;
 mod tally;
 mod text;
 
+use digests::Digests;
 use std::io::Write;
 use std::process::{Command, Stdio};
 use tally::{fail, number_of, Tally};
@@ -51,27 +54,38 @@ fn differs(list: u64, input: &str, wanted: &[u8], given: &[u8]) -> ! {
     ))
 }
 
-/// How many clock calls of a list both ends refuse with different numbers: 2 at the head-end, 3 at the modem.
-fn refused_by_both(input: &str, answers: &str) -> u64 {
-    let (mut clock, mut count) = (0, 0);
+/// How many clock calls of a list both ends refuse with different numbers: 2 at the head-end and 3 at the modem, and the other way.
+fn refused_by_both(input: &str, answers: &str) -> [u64; 2] {
+    let (mut clock, mut saids, mut counts) = (0, 0, [0, 0]);
     for (call, answer) in input.lines().skip(4).zip(answers.lines()) {
-        let second = call.strip_prefix("clock,").and_then(|rest| rest.split(',').next()?.parse::<u64>().ok());
-        match (second, number_of(answer)) {
-            (Some(t), Some(0)) => clock = t,
-            (Some(t), Some(2)) if t < clock || t > 1_000_000_000_000 => count += 1,
+        let fields: Vec<&str> = call.split(',').collect();
+        match (fields[0], number_of(answer)) {
+            ("list", Some(0)) => saids += (fields.len() - 4) / 2,
+            ("clock", Some(0)) => clock = second(&fields),
+            ("clock", Some(2)) if second(&fields) < clock || second(&fields) > 1_000_000_000_000 => {
+                // hexadecimal digits: two an octet, 64 octets of material for each SAID, 20 of a key
+                let (material, key) = (fields[2].len() == 128 * saids, fields[3].len() == 40);
+                counts[0] += u64::from(!material && key);
+                counts[1] += u64::from(material && !key);
+            }
             _ => {}
         }
     }
-    count
+    counts
+}
+
+fn second(clock: &[&str]) -> u64 {
+    clock[1].parse().expect("a clock call that was answered has a second")
 }
 
 fn main() {
     let args: Vec<String> = std::env::args().skip(1).collect();
     let n = |at: usize| args[at].parse::<u64>().expect("a number");
     let (lists, calls, seed, program) = (n(0), n(1), n(2), &args[3]);
-    let (mut tally, mut no_calls, mut wrong_forms, mut wrong_values, mut by_both) = (Tally::default(), 0, 0, 0, 0);
+    let (mut tally, mut no_calls, mut wrong_forms, mut wrong_values, mut by_both) = (Tally::default(), 0, 0, 0, [0, 0]);
+    let mut digests = Digests::default();
     for list in seed..seed + lists {
-        let (input, wanted) = plant::list(list, plant::calls_of(list, calls));
+        let (input, wanted) = plant::lists::list(list, plant::lists::calls_of(list, calls));
         let given = printed(program, input.clone());
         if given != wanted.as_bytes() {
             differs(list, &input, wanted.as_bytes(), &given);
@@ -80,7 +94,9 @@ fn main() {
             "?\n" => wrong_forms += 1,
             "1\n" => wrong_values += 1,
             _ => {
-                by_both += refused_by_both(&input, &wanted);
+                let both = refused_by_both(&input, &wanted);
+                by_both = [by_both[0] + both[0], by_both[1] + both[1]];
+                digests.add_list(&input, &wanted);
                 wanted.lines().filter(|l| !l.starts_with("frames")).for_each(|l| match number_of(l) {
                     Some(n) => tally.add(n),
                     None => no_calls += 1,
@@ -90,9 +106,10 @@ fn main() {
     }
     println!("outside: {program}, {lists} lists of {calls} calls from seed {seed}, no difference");
     println!("outside: lines that are no calls {no_calls}, set-ups wrong in form {wrong_forms}, out of their limits {wrong_values}");
-    println!("outside: clock calls that the head-end refuses with 2 and the modem with 3: {by_both}");
+    println!("outside: clock calls that the head-end refuses with 2 and the modem with 3: {}; with 3 and 2: {}", by_both[0], by_both[1]);
     tally.told("replay", &(0..15).collect::<Vec<_>>());
-    if [no_calls, wrong_forms, wrong_values, by_both].contains(&0) {
+    digests.told("replay");
+    if [no_calls, wrong_forms, wrong_values, by_both[0], by_both[1]].contains(&0) {
         fail("a line that is no call, a set-up wrong in form or out of its limits, or a clock call that both ends refuse was not reached");
     }
 }

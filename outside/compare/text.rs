@@ -7,8 +7,11 @@ use crate::random::Random;
 /// The longest line that may be a call.
 const LINE: usize = 16_384;
 
+/// In the lines below a `K` stands for a message key.
+const KEY: &str = "2b2b2b2b2b2b2b2b2b2b2b2b2b2b2b2b2b2b2b2b";
+
 /// Lines that are no calls, whatever came before.
-const NO_CALLS: [&str; 38] = [
+const NO_CALLS: [&str; 48] = [
     "",
     " ",
     ",",
@@ -19,16 +22,20 @@ const NO_CALLS: [&str; 38] = [
     "established,",
     " established",
     "established\r",
+    "established,K",
     "reauth,1",
     "reauth ",
-    "clock,5",
-    "clock,,",
-    "clock,5,0",
-    "clock,5,,",
-    "clock,-5,",
-    "clock,+5,",
-    "clock, 5,",
-    "clock,0x5,",
+    "reauth,K",
+    "clock,5,K",
+    "clock,,,K",
+    "clock,5,0,K",
+    "clock,5,,K,",
+    "clock,-5,,K",
+    "clock,+5,,K",
+    "clock, 5,,K",
+    "clock,0x5,,K",
+    "clock,5,,K2",
+    "clock,5,,0G",
     "sealup",
     "sealup,",
     "sealup,1,1",
@@ -37,16 +44,22 @@ const NO_CALLS: [&str; 38] = [
     "sealup,18446744073709551616",
     "sealup,99999999999999999999",
     "sealdown,1",
-    "openup,0,1,1",
-    "opendown,1,1,1,1,",
-    "down,1",
-    "down,2,0600000410000101",
-    "down,1,060",
-    "down,1,0g",
-    "down,1,0A",
-    "down,1,06 00",
-    "up,1,1,07",
-    "up,1,,07,0c000000",
+    "sealdown,1,1,K",
+    "openup,0,1,1,K",
+    "openup,0,1,1,1",
+    "opendown,1,1,1,1,K,",
+    "opendown,1,1,1,1,2",
+    "down,K,K",
+    "down,1,0600000410000101",
+    "down,K,0600000410000101",
+    "down,K,K,060",
+    "down,K,K,0g",
+    "down,K,K,0A",
+    "down,K,K,06 00",
+    "down,K2,K,0600000410000101",
+    "up,1,K,K,07",
+    "up,1,1,07,0c000000",
+    "up,1,K,K2,07,0c000000",
 ];
 
 /// Calls with a number at the end of what the text or C can hold.
@@ -58,22 +71,48 @@ const FAR_NUMBERS: [&str; 16] = [
     "sealdown,18446744073709551615,1",
     "sealdown,281474976710656,1",
     "sealdown,1,65537",
-    "opendown,257,1,1,1",
-    "opendown,1,1,65537,1",
-    "opendown,1,1,1,256",
-    "openup,256,1,1,1",
-    "openup,0,1,1,257",
-    "openup,0,18446744073709551615,1,1",
-    "clock,18446744073709551615,",
-    "clock,1000000000001,",
-    "up,281474976710656,1,07,0c000000",
+    "opendown,257,1,1,1,K",
+    "opendown,1,1,65537,1,K",
+    "opendown,1,1,1,256,K",
+    "openup,256,1,1,1,K",
+    "openup,0,1,1,257,K",
+    "openup,0,18446744073709551615,1,1,K",
+    "clock,18446744073709551615,,K",
+    "clock,1000000000001,,K",
+    "up,281474976710656,K,K,07,0c000000",
 ];
+
+/// Calls with a message key of another length, some with a number out of its limits, which comes first.
+const OTHER_KEYS: [&str; 16] = [
+    "clock,5,,",
+    "clock,1000000000001,,K00",
+    "up,1,,K,07,0c000000",
+    "up,1,K,,07,0c000000",
+    "up,1,K00,K,07,0c000000",
+    "up,1,K,KK,,0c000000",
+    "up,281474976710656,,,07,0c000000",
+    "up,1,K00,K,07,07",
+    "down,,K,0600000410000101",
+    "down,K,,0600000410000101",
+    "down,KKKK,K,0600000410000101",
+    "down,00,00,",
+    "openup,0,1,1,1,",
+    "openup,0,1,1,16,K00",
+    "opendown,1,1,1,1,K00",
+    "opendown,0,1,1,1,",
+];
+
+/// The line with its keys.
+fn keyed(line: &str) -> String {
+    line.replace('K', KEY)
+}
 
 /// A line of this length: an Authentication Information with padding.
 fn long(length: usize) -> String {
     // an even number of hexadecimal digits behind either
-    let start = if length.is_multiple_of(2) { "up,1,1,07,0c000000" } else { "up,01,1,07,0c000000" };
-    start.to_string() + &"0".repeat(length - start.len())
+    let start = keyed(if length.is_multiple_of(2) { "up,1,K,K,07,0c000000" } else { "up,01,K,K,07,0c000000" });
+    let padding = "0".repeat(length - start.len());
+    start + &padding
 }
 
 /// A listing of an address that is listed nowhere, wrong in its pairs or its flag.
@@ -99,8 +138,9 @@ pub fn odd_line(r: &mut Random) -> String {
         1 => long(LINE + 1),
         2 => long(LINE + 1 + r.below(20_000) as usize),
         3..=6 => listing(r),
-        7..=10 => r.pick(&FAR_NUMBERS).to_string(),
-        _ => r.pick(&NO_CALLS).to_string(),
+        7..=9 => keyed(r.pick(&FAR_NUMBERS)),
+        10..=12 => keyed(r.pick(&OTHER_KEYS)),
+        _ => keyed(r.pick(&NO_CALLS)),
     }
 }
 

@@ -1,10 +1,11 @@
 /* What include/curlewreel.h says of the stack: no call goes deeper than CURLEWREEL_OCTETS_STACK, and curlewreel_wipe_stack leaves no key there. All
- * keys are of one octet, MARK; the stack is filled before a call and looked through after it. */
+ * keys are of one octet, MARK, the message keys too, which HMAC mixes with two others; the stack is filled before a call and looked through
+ * after it. */
 #include "curlewreel.h"
 #include <stdio.h>
 #include <string.h>
 
-enum { MARK = 0xc7, FILL = 0x11, DEPTH = 64 * 1024, NEAR = 256, ADDRESS = 77 };
+enum { MARK = 0xc7, INNER = MARK ^ 0x36, OUTER = MARK ^ 0x5c, FILL = 0x11, DEPTH = 64 * 1024, NEAR = 256, ADDRESS = 77 };
 
 static const curlewreel_settings settings = {.tek_life = 1800, .tek_grace = 300, .ak_life = 86400, .ak_grace = 300, .authorize = 10,
     .reauthorize = 10, .operational = 10, .rekey = 10, .reject = 60};
@@ -14,6 +15,7 @@ static curlewreel_record records[CURLEWREEL_RECORDS];
 static curlewreel_modem m;
 static uint8_t material[CURLEWREEL_SAIDS * CURLEWREEL_OCTETS_MATERIAL], down[CURLEWREEL_OCTETS_ANSWER], up[CURLEWREEL_OCTETS_SENT];
 static uint8_t tek[CURLEWREEL_OCTETS_TEK], vector[CURLEWREEL_OCTETS_VECTOR], invalid[CURLEWREEL_OCTETS_INVALID];
+static uint8_t key[CURLEWREEL_OCTETS_MESSAGE_KEY]; /* of both directions */
 static size_t came, deepest, wrong;
 
 /* Each call in a frame of its own, so that what it leaves is below that of `tried`. */
@@ -29,31 +31,34 @@ HEAD(headend_new, curlewreel_headend_new(settings))
 HEAD(headend_list, curlewreel_headend_list(h, records, CURLEWREEL_RECORDS, ADDRESS, 1, four, material, sizeof material))
 HEAD(headend_clock, curlewreel_headend_clock(h, records, CURLEWREEL_RECORDS, 100000, material, sizeof material))
 HEAD(headend_receive, curlewreel_headend_receive(h, records, CURLEWREEL_RECORDS, ADDRESS, message, curlewreel_message_octets(message),
-    CURLEWREEL_DIGEST_YES, auth_key, sizeof auth_key, down, sizeof down))
+    key, sizeof key, key, sizeof key, auth_key, sizeof auth_key, down, sizeof down))
 CALL(headend_seal, wrong += curlewreel_headend_seal(h, records, CURLEWREEL_RECORDS, ADDRESS, 1, tek, 16, vector, 16).number != 0)
-CALL(headend_open, curlewreel_headend_opening c = curlewreel_headend_open(h, records, CURLEWREEL_RECORDS, CURLEWREEL_UP, ADDRESS, 1, 1, tek, 16,
-    vector, 16, invalid, sizeof invalid); h = c.headend; wrong += c.number != 0)
+CALL(headend_open, curlewreel_headend_opening c = curlewreel_headend_open(h, records, CURLEWREEL_RECORDS, CURLEWREEL_UP, ADDRESS, 1, 1, key,
+    sizeof key, tek, 16, vector, 16, invalid, sizeof invalid); h = c.headend; wrong += c.number != 0)
 MODEM(modem_new, curlewreel_modem_new(settings, ADDRESS, 1))
 MODEM(modem_established, curlewreel_modem_established(m, up, sizeof up))
 MODEM(modem_reauth, curlewreel_modem_reauth(m, up, sizeof up))
-MODEM(modem_clock, curlewreel_modem_clock(m, 100000, up, sizeof up))
-MODEM(modem_receive, curlewreel_modem_receive(m, down, came, CURLEWREEL_DIGEST_YES, up, sizeof up))
+MODEM(modem_clock, curlewreel_modem_clock(m, 100000, key, sizeof key, up, sizeof up))
+MODEM(modem_receive, curlewreel_modem_receive(m, down, came, key, sizeof key, key, sizeof key, up, sizeof up))
 CALL(modem_seal, wrong += curlewreel_modem_seal(m, 1, tek, 16, vector, 16).number != 0)
-CALL(modem_open, curlewreel_modem_opening c = curlewreel_modem_open(m, CURLEWREEL_DOWN, ADDRESS, 1, 1, tek, 16, vector, 16, up, sizeof up);
-    m = c.modem; wrong += c.number != 0)
+CALL(modem_open, curlewreel_modem_opening c = curlewreel_modem_open(m, CURLEWREEL_DOWN, ADDRESS, 1, 1, key, sizeof key, tek, 16,
+    vector, 16, up, sizeof up); m = c.modem; wrong += c.number != 0)
 
 /* The octet so far below a place. */
 static volatile uint8_t *below(uintptr_t top, size_t depth) { return (volatile uint8_t *)(top - depth); }
 
-/* How many runs of eight marks there are. */
-static size_t marks(uintptr_t top) {
+/* How many runs of eight marks of one kind there are. */
+static size_t runs_of(uintptr_t top, uint8_t mark) {
     size_t runs = 0, length = 0;
     for (size_t at = NEAR; at < DEPTH; at++) {
-        length = *below(top, at) == MARK ? length + 1 : 0;
+        length = *below(top, at) == mark ? length + 1 : 0;
         runs += length == 8;
     }
     return runs;
 }
+
+/* Keys as they are, and message keys as HMAC mixes them. */
+static size_t marks(uintptr_t top) { return runs_of(top, MARK) + runs_of(top, INNER) + runs_of(top, OUTER); }
 
 /* A call, how deep it goes, and how many keys it leaves before and after the wiping. */
 __attribute__((noinline)) static size_t tried(void (*call)(void)) {
@@ -73,6 +78,7 @@ __attribute__((noinline)) static size_t tried(void (*call)(void)) {
 int main(void) {
     size_t left = 0;
     memset(material, MARK, sizeof material);
+    memset(key, MARK, sizeof key);
     left += tried(headend_new) + tried(headend_list) + tried(modem_new) + tried(modem_established);
     message = up + CURLEWREEL_OCTETS_HEAD; /* behind the Authentication Information */
     left += tried(headend_receive) + tried(modem_receive);

@@ -7,6 +7,7 @@ mod library;
 mod random;
 mod tally;
 
+use curlewreel_outside::digest::{hmac, KEY};
 use curlewreel_outside::message::{Descriptor, Fields, Params};
 use random::Random;
 
@@ -70,7 +71,7 @@ fn attributes(f: &Fields, key: &[u8]) -> Vec<(u8, usize)> {
 }
 
 /// The values of each field of Wireshark's, none for those that the code does not carry.
-fn values(f: &Fields, key: &[u8], octets: usize) -> String {
+fn values(f: &Fields, key: &[u8], write_key: &[u8], octets: &[u8]) -> String {
     let (with_error, with_digest) = (matches!(f.code, 6 | 9 | 10 | 11), matches!(f.code, 7 | 8 | 9 | 11));
     let pair: &[&Params] = if f.code == 8 { &[&f.older, &f.newer] } else { &[] };
     let mut numbers: Vec<String> = if matches!(f.code, 5 | 7 | 8 | 9 | 11) { vec![f.ak_number.to_string()] } else { vec![] };
@@ -82,18 +83,20 @@ fn values(f: &Fields, key: &[u8], octets: usize) -> String {
     let some = |is: bool, value: String| if is { vec![value] } else { vec![] };
     let each = |of: &dyn Fn(&Params) -> String| pair.iter().map(|p| of(p)).collect::<Vec<_>>();
     let described = |of: &dyn Fn(&Descriptor) -> String| f.descriptors.iter().map(of).collect::<Vec<_>>();
+    // over what stands before the digest's attribute, which is the last and has 23 octets
+    let digest = hex(&hmac(write_key, &octets[..octets.len().saturating_sub(23)]));
     let (types, lengths): (Vec<_>, Vec<_>) = attributes(f, key).iter().map(|(t, n)| (t.to_string(), n.to_string())).unzip();
     [
         line("code", &[f.code.to_string()]),
         line("ident", &[f.identifier.to_string()]),
-        line("length", &[(octets - 4).to_string()]),
+        line("length", &[(octets.len() - 4).to_string()]),
         line("attr.type", &types),
         line("attr.length", &lengths),
         line("attr.auth_key", &some(f.code == 5, hex(key))),
         line("attr.tek", &each(&|p| hex(&p.tek))),
         line("attr.keylife", &lives),
         line("attr.keyseq", &numbers),
-        line("attr.hmacdigest", &some(with_digest, "00".repeat(20))),
+        line("attr.hmacdigest", &some(with_digest, digest)),
         line("attr.said", &saids),
         line("attr.cbciv", &each(&|p| hex(&p.vector))),
         line("attr.errcode", &some(with_error, f.error.to_string())),
@@ -112,10 +115,10 @@ fn main() {
         // Wireshark shows an AUTH-Key of one of three lengths alone
         let any = 1 + r.below(256) as usize;
         let n = r.pick(&[96, 128, 256, any]);
-        let key = r.octets(n);
+        let (key, write_key) = (r.octets(n), r.octets(KEY));
         let mut out = [0; 400];
-        let w = library::write(&library::laid_out(&f), &key, &mut out);
+        let w = library::write(&library::laid_out(&f), &key, &write_key, &mut out);
         tally::check(w.number == 0, || format!("fields within their limits were not written: {f:?}: {}", w.number));
-        println!("{}{}", hex(&out[..w.count]), values(&f, &key, w.count));
+        println!("{}{}", hex(&out[..w.count]), values(&f, &key, &write_key, &out[..w.count]));
     }
 }

@@ -1,5 +1,6 @@
 //! Tests of records whose deadlines are further ahead than the calls make them, and of the order of questions 9 to 11 at the ends.
 
+use crate::both::{DOWN, UP};
 use crate::headend::HeadEnd;
 use crate::limits::headend_fits;
 use crate::message::{read, write, End, Fields};
@@ -18,8 +19,8 @@ fn authorized() -> (HeadEnd, Vec<u8>) {
     let mut h = HeadEnd::new(settings()).unwrap();
     h.list(5, true, &[1; 64], &[(1, 256)]).unwrap();
     h.clock(100, &[2; 64]).unwrap();
-    h.receive(5, true, &[1], &[4, 1, 0, 5, 12, 0, 2, 0, 1]).unwrap();
-    let request = write(&Fields { code: 7, identifier: 9, said: 1, ..Fields::default() }, &[], 36).unwrap();
+    h.receive(5, &UP, &DOWN, &[1], &[4, 1, 0, 5, 12, 0, 2, 0, 1]).unwrap();
+    let request = write(&Fields { code: 7, identifier: 9, said: 1, ..Fields::default() }, &[], &UP, 36).unwrap();
     (h, request)
 }
 
@@ -50,7 +51,7 @@ fn limits_of_deadlines() {
 fn key_requests() {
     let (h, request) = authorized();
     for life in [901, 1_800, 3_600, LINE - 1, LINE] {
-        let reply = with_life(&h, life).receive(5, true, &[1], &request).unwrap();
+        let reply = with_life(&h, life).receive(5, &UP, &DOWN, &[1], &request).unwrap();
         let f = read(End::Modem, &reply).unwrap().fields;
         assert_eq!((u64::from(f.older.life), u64::from(f.newer.life)), (life - 900, life));
     }
@@ -58,20 +59,20 @@ fn key_requests() {
     for life in [LINE + 1, LINE + 900, LINE + 901, 1 << 40, u64::MAX - h.clock, (1 << 32) + 1_800] {
         let before = with_life(&h, life);
         let mut h = before.clone();
-        assert_eq!(h.receive(5, true, &[1], &request), Err(1));
+        assert_eq!(h.receive(5, &UP, &DOWN, &[1], &request), Err(1));
         // question 1 comes before 2
-        assert_eq!(h.receive(5, true, &[], &request), Err(1));
+        assert_eq!(h.receive(5, &UP, &DOWN, &[], &request), Err(1));
         assert_eq!(h, before);
         // what gets no Key Reply is answered
-        assert_eq!(h.receive(5, false, &[1], &request).unwrap(), [10, 9, 0, 4, 16, 0, 1, 5]);
-        assert_eq!(h.receive(6, true, &[1], &request).unwrap(), [10, 9, 0, 4, 16, 0, 1, 1]);
-        assert_eq!(h.receive(5, true, &[], &request[..9]), Err(2));
-        assert_eq!(h.receive(5, true, &[1], &request[..9]), Err(6));
-        assert_eq!(h.receive(5, true, &[1], &[4, 2, 0, 5, 12, 0, 2, 0, 1]).unwrap()[0], 5);
+        assert_eq!(h.receive(5, &DOWN, &DOWN, &[1], &request).unwrap(), [10, 9, 0, 4, 16, 0, 1, 5]);
+        assert_eq!(h.receive(6, &UP, &DOWN, &[1], &request).unwrap(), [10, 9, 0, 4, 16, 0, 1, 1]);
+        assert_eq!(h.receive(5, &UP, &DOWN, &[], &request[..9]), Err(2));
+        assert_eq!(h.receive(5, &UP, &DOWN, &[1], &request[..9]), Err(6));
+        assert_eq!(h.receive(5, &UP, &DOWN, &[1], &[4, 2, 0, 5, 12, 0, 2, 0, 1]).unwrap()[0], 5);
         // frames go on
         assert_eq!(h.seal(5, 1).unwrap(), (0, vec![1; 8], vec![1; 8]));
-        assert!(h.open(0, 5, 1, 0).is_ok() && h.open(0, 5, 1, 1).is_ok());
-        assert_eq!(h.open(0, 5, 1, 2).unwrap_err().0, 13);
+        assert!(h.open(0, 5, 1, 0, &DOWN).is_ok() && h.open(0, 5, 1, 1, &DOWN).is_ok());
+        assert_eq!(h.open(0, 5, 1, 2, &DOWN).unwrap_err().0, 13);
     }
 }
 
@@ -99,20 +100,20 @@ fn rolled_as_any() {
 #[test]
 fn ends_keep_their_order() {
     let f = Fields { code: 11, said: 1, error: 4, ..Fields::default() };
-    let mut invalid = write(&f, &[], 40).unwrap();
+    let mut invalid = write(&f, &[], &DOWN, 40).unwrap();
     invalid[1] = 7;
     let mut m = Modem::new(settings(), 5, 1).unwrap();
     // at the modem 10 comes before 11
-    assert_eq!(m.receive(true, &invalid), Err(10));
+    assert_eq!(m.receive(&DOWN, &UP, &invalid), Err(10));
     m.established().unwrap();
     let (mut h, _) = authorized();
-    let reply = h.receive(5, true, &[1], &[4, 1, 0, 5, 12, 0, 2, 0, 1]).unwrap();
-    m.receive(true, &reply).unwrap();
-    assert_eq!(m.receive(false, &invalid), Err(11));
+    let reply = h.receive(5, &UP, &DOWN, &[1], &[4, 1, 0, 5, 12, 0, 2, 0, 1]).unwrap();
+    m.receive(&DOWN, &UP, &reply).unwrap();
+    assert_eq!(m.receive(&UP, &UP, &invalid), Err(11));
     invalid[1] = 0;
-    assert_eq!(m.receive(false, &invalid), Err(12));
+    assert_eq!(m.receive(&UP, &UP, &invalid), Err(12));
     // at the head-end message 12 with another Identifier is 11, after 2 and 8
-    assert_eq!(h.receive(5, true, &[1], &[12, 7, 0, 2, 99, 0]), Err(8));
-    assert_eq!(h.receive(5, true, &[1], &[12, 7, 0, 0]), Err(11));
-    assert_eq!(h.receive(5, true, &[], &[12, 7, 0, 0]), Err(2));
+    assert_eq!(h.receive(5, &UP, &DOWN, &[1], &[12, 7, 0, 2, 99, 0]), Err(8));
+    assert_eq!(h.receive(5, &UP, &DOWN, &[1], &[12, 7, 0, 0]), Err(11));
+    assert_eq!(h.receive(5, &UP, &DOWN, &[], &[12, 7, 0, 0]), Err(2));
 }

@@ -1,6 +1,7 @@
 //! The head-end (document 01, "Traffic keys at the head-end" and "Head-end answers").
 
 use crate::association::{Entry, Record};
+use crate::digest::KEY;
 use crate::frame::{Held, Opened, Sealed};
 use crate::message::{read, write, Descriptor, End, Fields, Params};
 use crate::settings::{address_fits, said_fits, width, Settings, LAST_SECOND};
@@ -92,24 +93,29 @@ impl HeadEnd {
         Ok(())
     }
 
-    /// Receives a message; gives the answer's octets, none for Authentication Information.
-    pub fn receive(&mut self, address: u64, digest: bool, auth_key: &[u8], octets: &[u8]) -> Result<Vec<u8>, u8> {
+    /// Receives a message, under the message key of what is read and with that of what is written; gives the answer's octets, none for
+    /// Authentication Information.
+    pub fn receive(&mut self, address: u64, read_key: &[u8], write_key: &[u8], auth_key: &[u8], octets: &[u8]) -> Result<Vec<u8>, u8> {
         if !address_fits(address) {
             return Err(1);
         }
-        let asked = read(End::HeadEnd, octets).map(|m| m.fields);
-        // question 1 of the fields to be written: the one refusal here is that of lives above their limit
+        let asked = read(End::HeadEnd, octets);
+        // question 1 of the fields to be written: the one refusal here is that of lives above their limit; a key of another length than 20 is
+        // as good as any here
         let to_key_request = match &asked {
-            Ok(f) if f.code == 7 => Some(write(&self.key_request(address, digest, f), &[], 342)?),
+            Ok(m) if m.fields.code == 7 => {
+                let holds = m.holds(octets, read_key);
+                Some(write(&self.key_request(address, holds, &m.fields), &[], write_key, 342)?)
+            }
             _ => None,
         };
-        if !(1..=256).contains(&auth_key.len()) {
+        if !(1..=256).contains(&auth_key.len()) || read_key.len() != KEY || write_key.len() != KEY {
             return Err(2);
         }
-        let asked = asked?;
+        let asked = asked?.fields;
         match (asked.code, to_key_request) {
             (_, Some(answer)) => Ok(answer),
-            (4, _) => write(&self.authorization(address, &asked), auth_key, 342),
+            (4, _) => write(&self.authorization(address, &asked), auth_key, write_key, 342),
             _ if asked.identifier != 0 => Err(11),
             _ => Ok(vec![]),
         }
@@ -137,14 +143,14 @@ impl HeadEnd {
     }
 
     /// Key Request (7), the first that applies.
-    fn key_request(&self, address: u64, digest: bool, asked: &Fields) -> Fields {
+    fn key_request(&self, address: u64, holds: bool, asked: &Fields) -> Fields {
         let Some(entry) = self.entry(address) else {
             return error(10, asked.identifier, 1);
         };
         if !entry.active(self.clock, asked.ak_number) {
             return error(10, asked.identifier, 4);
         }
-        if !digest {
+        if !holds {
             return error(10, asked.identifier, 5);
         }
         let mut answer =
@@ -178,9 +184,12 @@ impl HeadEnd {
     }
 
     /// Opens a frame: TEK and vector, or the number and, on 13, a TEK Invalid.
-    pub fn open(&mut self, direction: u64, address: u64, said: u64, number: u64) -> Opened {
+    pub fn open(&mut self, direction: u64, address: u64, said: u64, number: u64, write_key: &[u8]) -> Opened {
         if direction != 0 || !address_fits(address) || !said_fits(said) || number > 15 {
             return Err((1, vec![]));
+        }
+        if write_key.len() != KEY {
+            return Err((2, vec![]));
         }
         let clock = self.clock;
         let Some(r) = self.association(address, said) else {
@@ -190,18 +199,18 @@ impl HeadEnd {
         let opener = [&r.older, &r.newer].into_iter().find(|k| k.opens(clock, number));
         let Some(found) = opener.map(|k| k.octets(width(u64::from(r.suite)))) else {
             self.refused = self.refused.saturating_add(1);
-            return Err((13, self.tek_invalid(address, said)));
+            return Err((13, self.tek_invalid(address, said, write_key)));
         };
         self.taken = self.taken.saturating_add(1);
         Ok(found)
     }
 
     /// TEK Invalid (11), error 4, the newest authorization key's number; none where none is active.
-    fn tek_invalid(&self, address: u64, said: u64) -> Vec<u8> {
+    fn tek_invalid(&self, address: u64, said: u64, write_key: &[u8]) -> Vec<u8> {
         let newest = self.entry(address).filter(|e| e.newer_ak > self.clock);
         newest.map_or(vec![], |e| {
             let fields = Fields { code: 11, ak_number: e.newest(), said: said as u16, error: 4, ..Fields::default() };
-            write(&fields, &[], 40).expect("a TEK Invalid is within the limits")
+            write(&fields, &[], write_key, 40).expect("a TEK Invalid is within the limits")
         })
     }
 }

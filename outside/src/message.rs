@@ -1,7 +1,11 @@
 //! Messages: reading, writing (document 01, "Messages" and questions 6 to 9).
 
-use crate::attributes::{counted, first, first_number, life_fits, needed, number, scan};
+use crate::attributes::{counted, first, first_number, is_needed, life_fits, needed, number, scan};
 use crate::attributes::{suite_fits, Attribute, Holder};
+use crate::digest::{hmac, DIGEST, KEY};
+
+/// An attribute's type and length stand before its value.
+const HEAD_OF_ATTRIBUTE: usize = 3;
 
 /// The end that reads.
 #[derive(Clone, Copy, PartialEq, Eq, Debug)]
@@ -47,6 +51,15 @@ pub struct Reading {
     pub fields: Fields,
     pub auth_key: (usize, usize),
     pub digest: (usize, usize),
+}
+
+impl Reading {
+    /// Does the digest of the octets that were read hold under a key? The sum is over all that stands before the attribute's type octet. A message
+    /// that carries none has none that holds.
+    pub fn holds(&self, octets: &[u8], key: &[u8]) -> bool {
+        let (at, length) = self.digest;
+        length == DIGEST && octets[at..at + DIGEST] == hmac(key, &octets[..at - HEAD_OF_ATTRIBUTE])
+    }
 }
 
 fn read_params(octets: &[u8], from: usize, to: usize) -> Result<Params, u8> {
@@ -222,12 +235,12 @@ fn put_descriptor(out: &mut Vec<u8>, d: &Descriptor) {
     put(out, 23, &inside);
 }
 
-/// Writes a message in the standard order, the digest as zeros, into a slice of `room` octets.
-pub fn write(fields: &Fields, auth_key: &[u8], room: usize) -> Result<Vec<u8>, u8> {
+/// Writes a message in the standard order, with the digest that the key gives, into a slice of `room` octets. The key is asked of every code.
+pub fn write(fields: &Fields, auth_key: &[u8], write_key: &[u8], room: usize) -> Result<Vec<u8>, u8> {
     if !fields_fit(fields) {
         return Err(1);
     }
-    if fields.code == 5 && !(1..=256).contains(&auth_key.len()) {
+    if fields.code == 5 && !(1..=256).contains(&auth_key.len()) || write_key.len() != KEY {
         return Err(2);
     }
     let mut body = Vec::new();
@@ -236,7 +249,7 @@ pub fn write(fields: &Fields, auth_key: &[u8], room: usize) -> Result<Vec<u8>, u
             7 => put(&mut body, 7, auth_key),
             9 => put(&mut body, 9, &fields.life.to_be_bytes()),
             10 => put(&mut body, 10, &[fields.ak_number]),
-            11 => put(&mut body, 11, &[0; 20]),
+            11 => put(&mut body, 11, &[0; DIGEST]),
             12 => put(&mut body, 12, &fields.said.to_be_bytes()),
             13 => {
                 put_params(&mut body, &fields.older);
@@ -251,6 +264,11 @@ pub fn write(fields: &Fields, auth_key: &[u8], room: usize) -> Result<Vec<u8>, u
     out.extend(body);
     if out.len() > room {
         return Err(2);
+    }
+    if is_needed(Holder::Message(fields.code), 11) {
+        let at = out.len() - DIGEST;
+        let digest = hmac(write_key, &out[..at - HEAD_OF_ATTRIBUTE]);
+        out[at..].copy_from_slice(&digest);
     }
     Ok(out)
 }

@@ -1,6 +1,8 @@
 //! Tests of reading and writing messages.
 use super::*;
 
+const KEY_LENT: [u8; KEY] = [3; KEY];
+
 fn params(number: u8, life: u32) -> Params {
     Params { number, life, tek: vec![number; 8], vector: vec![9; 8] }
 }
@@ -12,7 +14,7 @@ fn reply() -> Fields {
 
 #[test]
 fn key_reply_edges() {
-    let octets = write(&reply(), &[], 342).unwrap();
+    let octets = write(&reply(), &[], &KEY_LENT, 342).unwrap();
     assert_eq!(octets.len(), 108);
     let reading = read(End::Modem, &octets).unwrap();
     assert_eq!(reading.fields, reply());
@@ -37,16 +39,16 @@ fn reply_round() {
         descriptors: (0..4).map(|i| Descriptor { said: 16_380 + i, sa_type: 1, suite: 768 }).collect(),
         ..Fields::default()
     };
-    let octets = write(&fields, &[7; 256], 342).unwrap();
+    let octets = write(&fields, &[7; 256], &KEY_LENT, 342).unwrap();
     assert_eq!(octets.len(), 342);
     let reading = read(End::Modem, &octets).unwrap();
     assert_eq!(reading.fields, fields);
     assert_eq!(reading.auth_key, (7, 256));
-    assert_eq!(write(&fields, &[7; 256], 341), Err(2));
-    assert_eq!(write(&fields, &[], 342), Err(2));
+    assert_eq!(write(&fields, &[7; 256], &KEY_LENT, 341), Err(2));
+    assert_eq!(write(&fields, &[], &KEY_LENT, 342), Err(2));
     let mut same = fields.clone();
     same.descriptors[3].said = 16_380;
-    assert_eq!(write(&same, &[7], 342), Err(1));
+    assert_eq!(write(&same, &[7], &KEY_LENT, 342), Err(1));
 }
 
 #[test]
@@ -69,7 +71,7 @@ fn skipped_and_last() {
 #[test]
 fn reader_by_itself() {
     let f = Fields { code: 11, ak_number: 7, said: 8_800, error: 4, ..Fields::default() };
-    let mut invalid = write(&f, &[], 40).unwrap();
+    let mut invalid = write(&f, &[], &KEY_LENT, 40).unwrap();
     assert_eq!(read_alone(End::Modem, &invalid).unwrap().fields, f);
     invalid[1] = 1;
     assert_eq!(read_alone(End::Modem, &invalid), Err(11));
@@ -83,7 +85,7 @@ fn reader_by_itself() {
     assert_eq!(read_alone(End::HeadEnd, &[12, 255, 0, 0]), Err(11));
     assert_eq!(read_alone(End::HeadEnd, &[12, 1, 0, 2, 99, 0]), Err(8));
     // Other codes carry any.
-    for octets in [write(&reply(), &[], 342).unwrap(), vec![10, 1, 0, 4, 16, 0, 1, 4], vec![6, 0, 0, 4, 16, 0, 1, 4]] {
+    for octets in [write(&reply(), &[], &KEY_LENT, 342).unwrap(), vec![10, 1, 0, 4, 16, 0, 1, 4], vec![6, 0, 0, 4, 16, 0, 1, 4]] {
         assert_eq!(read_alone(End::Modem, &octets), read(End::Modem, &octets));
     }
 }
@@ -92,17 +94,17 @@ fn reader_by_itself() {
 fn writer_refuses() {
     let mut f = reply();
     f.error = 1;
-    assert_eq!(write(&f, &[], 342), Err(1));
+    assert_eq!(write(&f, &[], &KEY_LENT, 342), Err(1));
     let mut f = reply();
     f.newer.number = 4;
-    assert_eq!(write(&f, &[], 342), Err(1));
+    assert_eq!(write(&f, &[], &KEY_LENT, 342), Err(1));
     let mut f = reply();
     f.newer.life = 43_200;
-    assert_eq!(write(&f, &[], 342), Err(1));
+    assert_eq!(write(&f, &[], &KEY_LENT, 342), Err(1));
     for code in [11, 12] {
         let f = Fields { code, identifier: 1, ..Fields::default() };
-        assert_eq!(write(&f, &[], 342), Err(1));
-        assert!(write(&Fields { identifier: 0, ..f }, &[], 342).is_ok());
+        assert_eq!(write(&f, &[], &KEY_LENT, 342), Err(1));
+        assert!(write(&Fields { identifier: 0, ..f }, &[], &KEY_LENT, 342).is_ok());
     }
-    assert_eq!(write(&Fields::default(), &[], 342), Err(1));
+    assert_eq!(write(&Fields::default(), &[], &KEY_LENT, 342), Err(1));
 }

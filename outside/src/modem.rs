@@ -1,8 +1,10 @@
 //! The modem (document 01, "Modem: authorization machine", "Modem: TEK machine").
 
+use crate::digest::KEY;
 use crate::frame::{Held, Opened, Sealed};
 use crate::machines::{next, AUTHORIZATION, TEK};
-use crate::message::{read, write, End, Fields, Params};
+use crate::message::{read, End, Fields, Params};
+use crate::sent::{Sent, NO_KEY};
 use crate::settings::{address_fits, said_fits, Settings, LAST_SECOND};
 use crate::slot::Slot;
 
@@ -25,12 +27,6 @@ pub struct Modem {
 
 fn due(timer: Option<u64>, clock: u64) -> bool {
     timer.is_some_and(|t| t <= clock)
-}
-
-/// The octets of a message of the modem.
-fn message(code: u8, identifier: u8, ak_number: u8, said: u16) -> Vec<u8> {
-    let fields = Fields { code, identifier, ak_number, said, ..Fields::default() };
-    write(&fields, &[], 36).expect("a modem's message is within the limits")
 }
 
 impl Modem {
@@ -62,7 +58,7 @@ impl Modem {
     }
 
     /// An event of the authorization machine: from and to, none for a blank.
-    fn authorization(&mut self, event: usize, out: &mut Vec<u8>) -> Option<(u8, u8)> {
+    fn authorization(&mut self, event: usize, out: &mut Sent) -> Option<(u8, u8)> {
         let from = self.state;
         let to = next(&AUTHORIZATION, event, from)?;
         if event == 7 && from == b'D' {
@@ -70,13 +66,13 @@ impl Modem {
         }
         (self.state, self.timer) = (to, None);
         if to == b'B' {
-            out.extend(message(12, 0, 0, 0));
+            out.message(12, 0, 0, 0);
         }
         if to == b'B' || to == b'D' {
             if event != 5 {
                 self.asked = self.identifier();
             }
-            out.extend(message(4, self.asked, 0, self.own));
+            out.message(4, self.asked, 0, self.own);
         }
         let s = &self.settings;
         self.timer = match to {
@@ -92,7 +88,7 @@ impl Modem {
     }
 
     /// An event of a TEK machine; event 8's pair and timer are set by its caller.
-    fn tek(&mut self, slot: usize, event: usize, out: &mut Vec<u8>) {
+    fn tek(&mut self, slot: usize, event: usize, out: &mut Sent) {
         let Some(to) = next(&TEK, event, self.slots[slot].state) else {
             return;
         };
@@ -111,36 +107,39 @@ impl Modem {
             s.keys = None;
         }
         if wait.is_some() {
-            out.extend(message(7, s.identifier, self.ak, s.said));
+            out.message(7, s.identifier, self.ak, s.said);
         }
     }
 
     /// Event 1, established.
     pub fn established(&mut self) -> Result<Vec<u8>, u8> {
-        let mut out = vec![];
+        let mut out = Sent::new(NO_KEY);
         self.authorization(1, &mut out);
-        Ok(out)
+        Ok(out.octets)
     }
 
     /// Event 8, reauth.
     pub fn reauth(&mut self) -> Result<Vec<u8>, u8> {
-        let mut out = vec![];
+        let mut out = Sent::new(NO_KEY);
         self.authorization(8, &mut out);
-        Ok(out)
+        Ok(out.octets)
     }
 
-    /// Question 3 of a clock call.
-    pub fn clock_refusal(&self, t: u64) -> Option<u8> {
+    /// Questions 2 and 3 of a clock call.
+    pub fn clock_refusal(&self, t: u64, write_key: &[u8]) -> Option<u8> {
+        if write_key.len() != KEY {
+            return Some(2);
+        }
         (t < self.clock || t > LAST_SECOND).then_some(3)
     }
 
     /// Clock to t: fires due timers once each, authorization first, then slots in order.
-    pub fn clock(&mut self, t: u64) -> Result<Vec<u8>, u8> {
-        if let Some(n) = self.clock_refusal(t) {
+    pub fn clock(&mut self, t: u64, write_key: &[u8]) -> Result<Vec<u8>, u8> {
+        if let Some(n) = self.clock_refusal(t, write_key) {
             return Err(n);
         }
         self.clock = t;
-        let mut out = vec![];
+        let mut out = Sent::new(write_key);
         if due(self.timer, t) {
             let event = if self.state == b'C' { 6 } else { 5 };
             self.authorization(event, &mut out);
@@ -151,7 +150,7 @@ impl Modem {
                 self.tek(i, event, &mut out);
             }
         }
-        Ok(out)
+        Ok(out.octets)
     }
 
     fn slot(&self, said: u64) -> Option<usize> {
@@ -175,39 +174,44 @@ impl Modem {
         }
     }
 
-    /// Receives a message: questions 6 to 12; gives the messages that go out.
-    pub fn receive(&mut self, digest: bool, octets: &[u8]) -> Result<Vec<u8>, u8> {
-        let f = read(End::Modem, octets)?.fields;
+    /// Receives a message, under the message key of what is read and with that of what is written: questions 2, 6 to 12; gives the messages
+    /// that go out.
+    pub fn receive(&mut self, read_key: &[u8], write_key: &[u8], octets: &[u8]) -> Result<Vec<u8>, u8> {
+        if read_key.len() != KEY || write_key.len() != KEY {
+            return Err(2);
+        }
+        let reading = read(End::Modem, octets)?;
+        let f = &reading.fields;
         let named = matches!(f.code, 8 | 9 | 11);
         let slot = self.slot(u64::from(f.said)).filter(|_| named);
-        if f.code == 8 && slot.is_some_and(|i| !self.slots[i].widths_fit(&f)) {
+        if f.code == 8 && slot.is_some_and(|i| !self.slots[i].widths_fit(f)) {
             return Err(9);
         }
         if named && slot.is_none() {
             return Err(10);
         }
-        if !self.identifier_fits(&f, slot) {
+        if !self.identifier_fits(f, slot) {
             return Err(11);
         }
-        if named && !digest {
+        if named && !reading.holds(octets, read_key) {
             return Err(12);
         }
-        let mut out = vec![];
+        let mut out = Sent::new(write_key);
         match (f.code, slot) {
-            (5, _) => self.reply(&f, &mut out),
+            (5, _) => self.reply(f, &mut out),
             (6, _) => {
                 self.authorization(if f.error == 6 { 3 } else { 2 }, &mut out);
             }
-            (8, Some(i)) => self.key_reply(i, &f, &mut out),
+            (8, Some(i)) => self.key_reply(i, f, &mut out),
             (9, Some(i)) => self.tek(i, 9, &mut out),
             (11, Some(i)) => self.tek(i, 5, &mut out),
             _ => self.invalid(f.identifier, &mut out),
         }
-        Ok(out)
+        Ok(out.octets)
     }
 
     /// Event 4, Reply: B-C and D-C.
-    fn reply(&mut self, f: &Fields, out: &mut Vec<u8>) {
+    fn reply(&mut self, f: &Fields, out: &mut Sent) {
         let Some((from, _)) = self.authorization(4, out) else {
             return;
         };
@@ -227,7 +231,7 @@ impl Modem {
     }
 
     /// Event 7, Invalid; it tells Pend where it is no blank.
-    fn invalid(&mut self, identifier: u8, out: &mut Vec<u8>) {
+    fn invalid(&mut self, identifier: u8, out: &mut Sent) {
         let slot = self.answered(identifier);
         if self.authorization(7, out).is_some() {
             if let Some(i) = slot {
@@ -237,7 +241,7 @@ impl Modem {
     }
 
     /// Event 8, Key Reply.
-    fn key_reply(&mut self, slot: usize, f: &Fields, out: &mut Vec<u8>) {
+    fn key_reply(&mut self, slot: usize, f: &Fields, out: &mut Sent) {
         self.tek(slot, 8, out);
         let now = self.clock;
         let hold = |p: &Params| Held::new(p.number, now + u64::from(p.life), &p.tek, &p.vector);
@@ -259,9 +263,12 @@ impl Modem {
     }
 
     /// Opens a frame: TEK and vector, or the number and, on 13, what goes out.
-    pub fn open(&mut self, direction: u64, address: u64, said: u64, number: u64) -> Opened {
+    pub fn open(&mut self, direction: u64, address: u64, said: u64, number: u64, write_key: &[u8]) -> Opened {
         if direction != 1 || !address_fits(address) || !said_fits(said) || number > 15 {
             return Err((1, vec![]));
+        }
+        if write_key.len() != KEY {
+            return Err((2, vec![]));
         }
         let Some(i) = self.slot(said).filter(|_| address == self.address) else {
             self.refused = self.refused.saturating_add(1);
@@ -277,9 +284,9 @@ impl Modem {
             }
             None => {
                 self.refused = self.refused.saturating_add(1);
-                let mut out = vec![];
+                let mut out = Sent::new(write_key);
                 self.tek(i, 5, &mut out);
-                Err((13, out))
+                Err((13, out.octets))
             }
         }
     }

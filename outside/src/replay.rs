@@ -97,31 +97,31 @@ impl Ends {
         let rest = &fields[1..];
         match (fields[0], rest.len()) {
             (b"list", n) if n >= 5 && n % 2 == 1 => self.list(rest),
-            (b"clock", 2) => Some(self.clock(number(rest[0])?, &octets(rest[1])?)),
+            (b"clock", 3) => Some(self.clock(number(rest[0])?, &octets(rest[1])?, &octets(rest[2])?)),
             (b"established", 0) => Some(sent(self.modem.established())),
             (b"reauth", 0) => Some(sent(self.modem.reauth())),
-            (b"up", 4) => {
-                let (address, digest) = (number(rest[0])?, flag(rest[1])?);
-                let (auth_key, message) = (octets(rest[2])?, octets(rest[3])?);
-                let answer = self.head.receive(address, digest, &auth_key, &message);
+            (b"up", 5) => {
+                let (address, read_key, write_key) = (number(rest[0])?, octets(rest[1])?, octets(rest[2])?);
+                let (auth_key, message) = (octets(rest[3])?, octets(rest[4])?);
+                let answer = self.head.receive(address, &read_key, &write_key, &auth_key, &message);
                 Some(sent(answer))
             }
-            (b"down", 2) => {
-                let (digest, message) = (flag(rest[0])?, octets(rest[1])?);
-                Some(sent(self.modem.receive(digest, &message)))
+            (b"down", 3) => {
+                let (read_key, write_key, message) = (octets(rest[0])?, octets(rest[1])?, octets(rest[2])?);
+                Some(sent(self.modem.receive(&read_key, &write_key, &message)))
             }
             (b"sealdown", 2) => {
                 let n = numbers(rest)?;
                 Some(sealed(self.head.seal(n[0], n[1])))
             }
             (b"sealup", 1) => Some(sealed(self.modem.seal(number(rest[0])?))),
-            (b"openup", 4) => {
-                let n = numbers(rest)?;
-                Some(opened(self.head.open(n[0], n[1], n[2], n[3])))
+            (b"openup", 5) => {
+                let (n, write_key) = (numbers(&rest[..4])?, octets(rest[4])?);
+                Some(opened(self.head.open(n[0], n[1], n[2], n[3], &write_key)))
             }
-            (b"opendown", 4) => {
-                let n = numbers(rest)?;
-                Some(opened(self.modem.open(n[0], n[1], n[2], n[3])))
+            (b"opendown", 5) => {
+                let (n, write_key) = (numbers(&rest[..4])?, octets(rest[4])?);
+                Some(opened(self.modem.open(n[0], n[1], n[2], n[3], &write_key)))
             }
             _ => None,
         }
@@ -137,12 +137,12 @@ impl Ends {
     }
 
     /// Refused for both where either refuses; the earlier question gives the number.
-    fn clock(&mut self, t: u64, material: &[u8]) -> String {
-        let refusals = [self.head.clock_refusal(t, material), self.modem.clock_refusal(t)];
+    fn clock(&mut self, t: u64, material: &[u8], write_key: &[u8]) -> String {
+        let refusals = [self.head.clock_refusal(t, material), self.modem.clock_refusal(t, write_key)];
         if let Some(n) = refusals.into_iter().flatten().min() {
             return n.to_string();
         }
-        sent(self.head.clock(t, material).and_then(|()| self.modem.clock(t)))
+        sent(self.head.clock(t, material).and_then(|()| self.modem.clock(t, write_key)))
     }
 
     pub fn frames(&self) -> String {
@@ -219,29 +219,55 @@ mod tests {
 
     #[test]
     fn calls() {
-        let fresh = "0a".repeat(64);
+        let (fresh, key) = ("0a".repeat(64), "01".repeat(20));
         let calls = format!(
-            "list,5,1,{fresh},8800,256\nlist,5,1,{fresh}\nestablished\nreauth\nup,5,1,07,040100050c00022260\n\
-             down,1,050100250700010709000400015180\n\nclock,10,{fresh}\nclock,9,{fresh}\nclock,10,\n\
-             sealdown,5,8800\nopenup,0,5,8800,0\nopenup,2,5,8800,0\nopenup,0,5,8800,2\nopendown,1,5,8800,0\n\
-             sealup,8800\nup,5,2,07,\nup,5,1,0A,\nup,5,1,,\n"
+            "list,5,1,{fresh},8800,256\nlist,5,1,{fresh}\nestablished\nreauth\nup,5,{key},{key},07,040100050c00022260\n\
+             down,{key},{key},050100250700010709000400015180\n\nclock,10,{fresh},{key}\nclock,9,{fresh},{key}\nclock,10,,{key}\n\
+             sealdown,5,8800\nopenup,0,5,8800,0,{key}\nopenup,2,5,8800,0,{key}\nopenup,0,5,8800,2,{key}\nopendown,1,5,8800,0,{key}\n\
+             sealup,8800\nup,5,{key},{key},07\nup,5,{key},{key},0A,\nup,5,{key},{key},,\n"
         );
-        let (key, zeros) = ("0a".repeat(8), "00".repeat(20));
+        let invalid = "0b0000240a0001000c00022260100001040b0014";
+        let digest = hex(&crate::digest::hmac(&[1; 20], &octets(&invalid.as_bytes()[..34]).unwrap()));
+        let tek = "0a".repeat(8);
         let reply = "0501002007000107090004000151800a00010017000e0c00022260180001001400020100";
-        let invalid = format!("0b0000240a0001000c00022260100001040b0014{zeros}");
         let wanted = format!(
             "0\n?\n0,0c000000040100050c00022260\n0,\n0,{reply}\n6\n?\n\
-             0,0c000000040100050c00022260\n3\n2\n0,0,{key},{key}\n0,{key},{key}\n1\n\
-             13,{invalid}\n10\n10\n?\n?\n2\nframes,1,1,0,1\n"
+             0,0c000000040100050c00022260\n3\n2\n0,0,{tek},{tek}\n0,{tek},{tek}\n1\n\
+             13,{invalid}{digest}\n10\n10\n?\n?\n2\nframes,1,1,0,1\n"
         );
         assert_eq!(run(&calls), wanted);
-        // both ends refuse, the head-end with 2 and the modem with 3
-        let both =
-            format!("list,5,1,{fresh},8800,256\nclock,10,{fresh}\nclock,9,\nclock,1000000000001,00\nclock,9,{fresh}\nclock,10,{fresh}\n");
-        assert_eq!(run(&both), "0\n0,\n2\n2\n3\n0,\nframes,0,0,0,0\n");
-        let long = format!("up,5,1,07,0c000000{}", "00".repeat(8_183));
+        let long = format!("up,5,{key},{key},07,0c000000{}", "00".repeat(8_143));
         assert_eq!(long.len(), 16_384);
         assert_eq!(run(&long), "0,\nframes,0,0,0,0\n");
         assert_eq!(run(&format!("{long}0\n")), "?\nframes,0,0,0,0\n");
+    }
+
+    /// A key of another length is refused with 2 in each call that takes one; one that is missing, or has half an octet, makes no call.
+    #[test]
+    fn keys() {
+        let right = "01".repeat(20);
+        for key in ["", "01", &"01".repeat(19), &"01".repeat(21)] {
+            let calls = format!(
+                "clock,1,,{key}\nup,5,{key},{right},07,0c000000\nup,5,{right},{key},07,0c000000\ndown,{key},{right},0c000000\n\
+                 down,{right},{key},0c000000\nopenup,0,5,1,1,{key}\nopendown,1,5,1,1,{key}\n"
+            );
+            assert_eq!(run(&calls), format!("{}frames,0,0,0,0\n", "2\n".repeat(7)));
+        }
+        let calls = format!(
+            "clock,1,\nclock,1,,0\nup,5,{right},07,0c000000\ndown,{right},0c000000\nopenup,0,5,1,1\nopendown,1,5,1,1\n\
+             openup,0,5,1,1,{right},\nopendown,1,5,1,1,{right}0\nclock,1,,{right}\n"
+        );
+        assert_eq!(run(&calls), format!("{}0,\nframes,0,0,0,0\n", "?\n".repeat(8)));
+    }
+
+    /// Both ends refuse a clock call: 2 at either comes before 3 at the other.
+    #[test]
+    fn clocks_that_both_refuse() {
+        let (fresh, key) = ("0a".repeat(64), "01".repeat(20));
+        let both = format!(
+            "list,5,1,{fresh},8800,256\nclock,10,{fresh},{key}\nclock,9,,{key}\nclock,1000000000001,00,{key}\nclock,9,{fresh},{key}\n\
+             clock,9,{fresh},{key}00\nclock,11,{fresh},\nclock,11,,\nclock,10,{fresh},{key}\n"
+        );
+        assert_eq!(run(&both), "0\n0,\n2\n2\n3\n2\n2\n2\n0,\nframes,0,0,0,0\n");
     }
 }

@@ -1,98 +1,8 @@
 //! Tests of both ends together: edges, first exchange, rollover, refusals.
 
-use crate::headend::HeadEnd;
+use crate::both::{material, split, Both, ADDRESS, DOWN, SAID, UP};
 use crate::message::{read, write, End, Fields};
-use crate::modem::Modem;
-use crate::settings::{Settings, LAST_SECOND};
-
-const ADDRESS: u64 = 0x0000_a0b1_c2d3;
-const SAID: u64 = 8_800;
-
-fn settings() -> Settings {
-    Settings {
-        life: 1_800,
-        grace: 300,
-        aklife: 86_400,
-        akgrace: 300,
-        authorize: 10,
-        reauthorize: 10,
-        operational: 10,
-        rekey: 10,
-        reject: 60,
-    }
-}
-
-/// Fresh material for n SAIDs, another with each seed.
-fn material(n: usize, seed: u64) -> Vec<u8> {
-    (0..64 * n).map(|i| (i as u64 * 7 + seed * 31 + 1) as u8).collect()
-}
-
-struct Both {
-    head: HeadEnd,
-    modem: Modem,
-    seed: u64,
-}
-
-impl Both {
-    /// Both ends, the modem listed with SAIDs 8,800 (suite 256) and 8,801 (768).
-    fn new() -> Both {
-        let mut head = HeadEnd::new(settings()).unwrap();
-        let modem = Modem::new(settings(), ADDRESS, SAID).unwrap();
-        let saids = [(SAID, 256), (SAID + 1, 768)];
-        head.list(ADDRESS, true, &material(2, 0), &saids).unwrap();
-        Both { head, modem, seed: 0 }
-    }
-
-    fn clock(&mut self, t: u64) -> Vec<Vec<u8>> {
-        self.seed += 1;
-        let fresh = material(self.head.records.len(), self.seed);
-        self.head.clock(t, &fresh).unwrap();
-        split(&self.modem.clock(t).unwrap())
-    }
-
-    fn up(&mut self, message: &[u8]) -> Vec<u8> {
-        self.head.receive(ADDRESS, true, &[5], message).unwrap()
-    }
-
-    fn down(&mut self, message: &[u8]) -> Vec<Vec<u8>> {
-        split(&self.modem.receive(true, message).unwrap())
-    }
-
-    /// Delivers all, both ways, until none is left.
-    fn settle(&mut self, mut messages: Vec<Vec<u8>>) {
-        while let Some(m) = messages.pop() {
-            let answer = self.up(&m);
-            if !answer.is_empty() {
-                messages.extend(self.down(&answer));
-            }
-        }
-    }
-
-    fn authorized(&mut self) -> Vec<Vec<u8>> {
-        let sent = split(&self.modem.established().unwrap());
-        assert_eq!(self.up(&sent[0]), []);
-        let reply = self.up(&sent[1]);
-        self.down(&reply)
-    }
-
-    fn operational() -> Both {
-        let mut b = Both::new();
-        let requests = b.authorized();
-        b.settle(requests);
-        b
-    }
-}
-
-/// The messages of a call.
-fn split(mut octets: &[u8]) -> Vec<Vec<u8>> {
-    let mut all = vec![];
-    while !octets.is_empty() {
-        let n = 4 + usize::from(octets[2]) * 256 + usize::from(octets[3]);
-        all.push(octets[..n].to_vec());
-        octets = &octets[n..];
-    }
-    all
-}
+use crate::settings::LAST_SECOND;
 
 fn deadlines(b: &Both) -> [(u8, u64); 2] {
     let r = &b.head.records[0];
@@ -141,11 +51,11 @@ fn first_exchange() {
     assert_eq!(b.modem.slots[0].timer, Some(1_500));
     let down = b.head.seal(ADDRESS, SAID + 1).unwrap();
     assert_eq!(down.0, 0);
-    let opened = b.modem.open(1, ADDRESS, SAID + 1, 0).unwrap();
+    let opened = b.modem.open(1, ADDRESS, SAID + 1, 0, &UP).unwrap();
     assert_eq!(opened, (down.1, down.2));
     let up = b.modem.seal(SAID).unwrap();
     assert_eq!((up.0, up.1.len()), (1, 8));
-    assert_eq!(b.head.open(0, ADDRESS, SAID, 1), Ok((up.1, up.2)));
+    assert_eq!(b.head.open(0, ADDRESS, SAID, 1, &DOWN), Ok((up.1, up.2)));
     assert_eq!((b.head.taken, b.modem.taken), (1, 1));
 }
 
@@ -156,10 +66,10 @@ fn rollover() {
         let messages = b.clock(t);
         b.settle(messages);
         let (n, tek, _) = b.head.seal(ADDRESS, SAID).unwrap();
-        let opened = b.modem.open(1, ADDRESS, SAID, u64::from(n)).unwrap();
+        let opened = b.modem.open(1, ADDRESS, SAID, u64::from(n), &UP).unwrap();
         assert_eq!(opened.0, tek, "down at {t}");
         let (n, tek, _) = b.modem.seal(SAID).unwrap();
-        let opened = b.head.open(0, ADDRESS, SAID, u64::from(n)).unwrap();
+        let opened = b.head.open(0, ADDRESS, SAID, u64::from(n), &DOWN).unwrap();
         assert_eq!(opened.0, tek, "up at {t}");
     }
     assert_eq!((b.head.refused, b.modem.refused), (0, 0));
@@ -205,18 +115,18 @@ fn late_reply() {
     b.clock(14_399);
     let (number, tek, _) = b.modem.seal(SAID).unwrap();
     assert_eq!(number, 1);
-    assert_eq!(b.head.open(0, ADDRESS, SAID, 1).unwrap_err().0, 13);
+    assert_eq!(b.head.open(0, ADDRESS, SAID, 1, &DOWN).unwrap_err().0, 13);
     b.clock(14_400);
     assert_eq!(b.head.records[0].made, 18);
     assert_eq!(b.modem.seal(SAID), Err(14));
-    let opened = b.head.open(0, ADDRESS, SAID, 1).unwrap();
+    let opened = b.head.open(0, ADDRESS, SAID, 1, &DOWN).unwrap();
     assert_ne!(opened.0, tek);
 }
 
 #[test]
 fn invalid_tek() {
     let mut b = Both::operational();
-    let (number, invalid) = b.head.open(0, ADDRESS, SAID, 9).unwrap_err();
+    let (number, invalid) = b.head.open(0, ADDRESS, SAID, 9, &DOWN).unwrap_err();
     assert_eq!((number, invalid.len(), b.head.refused), (13, 40, 1));
     // F + TEK Invalid: C, keys gone.
     b.clock(1_500);
@@ -226,7 +136,7 @@ fn invalid_tek() {
     assert!(b.down(&invalid).is_empty());
     assert_eq!((b.modem.slots[0].state, b.modem.slots[0].keys), (b'C', None));
     // 13 at the modem: E-B sends a new request.
-    let (number, out) = b.modem.open(1, ADDRESS, SAID + 1, 7).unwrap_err();
+    let (number, out) = b.modem.open(1, ADDRESS, SAID + 1, 7, &UP).unwrap_err();
     assert_eq!((number, split(&out).len(), b.modem.slots[1].state), (13, 1, b'B'));
 }
 
@@ -242,7 +152,7 @@ fn rejects() {
     assert_eq!(b.modem.seal(SAID), Err(14));
     assert!(b.clock(60).is_empty());
     assert_eq!((b.modem.state, b.modem.timer), (b'A', None));
-    silent.receive(true, &[6, id, 0, 4, 16, 0, 1, 6]).unwrap();
+    silent.receive(&DOWN, &UP, &[6, id, 0, 4, 16, 0, 1, 6]).unwrap();
     assert_eq!((silent.state, silent.timer), (b'F', None));
 }
 
@@ -251,25 +161,25 @@ fn head_end_answers() {
     let mut b = Both::operational();
     b.head.list(7, false, &material(1, 9), &[(1, 256)]).unwrap();
     let ask = [4, 9, 0, 5, 12, 0, 2, 0, 5];
-    let mut up = |a, m: &[u8]| b.head.receive(a, true, &[1; 256], m).unwrap();
+    let mut up = |a, m: &[u8]| b.head.receive(a, &UP, &DOWN, &[1; 256], m).unwrap();
     assert_eq!(up(7, &ask), [6, 9, 0, 4, 16, 0, 1, 6]);
     assert_eq!(up(8, &ask), [6, 9, 0, 4, 16, 0, 1, 1]);
     let mut key = Fields { code: 7, identifier: 3, said: 1, ..Fields::default() };
-    let octets = write(&key, &[], 36).unwrap();
+    let octets = write(&key, &[], &UP, 36).unwrap();
     assert_eq!(up(8, &octets), [10, 3, 0, 4, 16, 0, 1, 1]);
     assert_eq!(up(7, &octets), [10, 3, 0, 4, 16, 0, 1, 4]);
     let reject = read(End::Modem, &up(ADDRESS, &octets)).unwrap().fields;
     assert_eq!((reject.code, reject.error, reject.said), (9, 2, 1));
     key.ak_number = 1;
-    let octets = write(&key, &[], 36).unwrap();
+    let octets = write(&key, &[], &UP, 36).unwrap();
     assert_eq!(up(ADDRESS, &octets)[7], 4);
     up(ADDRESS, &ask);
     assert_eq!(up(ADDRESS, &octets)[0], 9);
     let life = |m: &[u8]| read(End::Modem, m).unwrap().fields.life;
     assert_eq!(life(&up(ADDRESS, &ask)), 172_800);
-    let no = b.head.receive(ADDRESS, false, &[1], &octets).unwrap();
+    let no = b.head.receive(ADDRESS, &DOWN, &DOWN, &[1], &octets).unwrap();
     assert_eq!(no, [10, 3, 0, 4, 16, 0, 1, 5]);
-    assert_eq!(b.head.open(0, 7, 1, 5), Err((13, vec![])));
+    assert_eq!(b.head.open(0, 7, 1, 5, &DOWN), Err((13, vec![])));
 }
 
 #[test]
@@ -282,19 +192,19 @@ fn refusals() {
     assert_eq!(h.clock(LAST_SECOND + 1, &[0; 128]), Err(3));
     assert_eq!(h.list(1, true, &[0; 128], &[(1, 256), (1, 256)]), Err(5));
     assert_eq!(h.list(ADDRESS, true, &[0; 64], &[(1, 256)]), Err(5));
-    assert_eq!(m.receive(true, &[5, 0, 0]), Err(6));
-    assert_eq!(m.receive(true, &[4, 0, 0, 0]), Err(7));
-    assert_eq!(m.receive(true, &[5, 0, 0, 2, 1, 1]), Err(8));
-    assert_eq!(m.receive(true, &[5, 0, 0, 0]), Err(9));
+    assert_eq!(m.receive(&DOWN, &UP, &[5, 0, 0]), Err(6));
+    assert_eq!(m.receive(&DOWN, &UP, &[4, 0, 0, 0]), Err(7));
+    assert_eq!(m.receive(&DOWN, &UP, &[5, 0, 0, 2, 1, 1]), Err(8));
+    assert_eq!(m.receive(&DOWN, &UP, &[5, 0, 0, 0]), Err(9));
     assert_eq!(m.seal(5), Err(10));
-    assert_eq!(h.receive(1, true, &[1], &[12, 1, 0, 0]), Err(11));
-    let (_, invalid) = h.clone().open(0, ADDRESS, SAID, 9).unwrap_err();
-    assert_eq!(m.receive(false, &invalid), Err(12));
+    assert_eq!(h.receive(1, &UP, &DOWN, &[1], &[12, 1, 0, 0]), Err(11));
+    let (_, invalid) = h.clone().open(0, ADDRESS, SAID, 9, &DOWN).unwrap_err();
+    assert_eq!(m.receive(&UP, &UP, &invalid), Err(12));
     assert_eq!(before, (h.clone(), m.clone()));
-    assert_eq!(m.open(1, 1, SAID, 0), Err((10, vec![])));
+    assert_eq!(m.open(1, 1, SAID, 0, &UP), Err((10, vec![])));
     assert_eq!(m.refused, 1);
-    assert_eq!(m.open(0, ADDRESS, SAID, 0), Err((1, vec![])));
-    assert_eq!(m.open(1, ADDRESS, SAID, 5).unwrap_err().0, 13);
+    assert_eq!(m.open(0, ADDRESS, SAID, 0, &UP), Err((1, vec![])));
+    assert_eq!(m.open(1, ADDRESS, SAID, 5, &UP).unwrap_err().0, 13);
     assert_eq!(m.refused, 2);
     assert_eq!(m.seal(SAID), Err(14));
     for i in 1..16 {
@@ -302,7 +212,7 @@ fn refusals() {
     }
     assert_eq!(h.list(16, true, &[0; 64], &[(16, 256)]), Err(4));
     h.refused = u64::MAX;
-    assert_eq!(h.open(0, 99, SAID, 0), Err((10, vec![])));
+    assert_eq!(h.open(0, 99, SAID, 0, &DOWN), Err((10, vec![])));
     assert_eq!(h.refused, u64::MAX);
 }
 
@@ -312,9 +222,9 @@ fn widths() {
     let requests = b.authorized();
     let mut f = read(End::Modem, &b.up(&requests[0])).unwrap().fields;
     f.older.tek = vec![1; 16];
-    let wide = write(&f, &[], 342).unwrap();
-    assert_eq!(b.modem.receive(true, &wide), Err(9));
+    let wide = write(&f, &[], &DOWN, 342).unwrap();
+    assert_eq!(b.modem.receive(&DOWN, &UP, &wide), Err(9));
     f.said = 5;
-    let unknown = write(&f, &[], 342).unwrap();
-    assert_eq!(b.modem.receive(true, &unknown), Err(10));
+    let unknown = write(&f, &[], &DOWN, 342).unwrap();
+    assert_eq!(b.modem.receive(&DOWN, &UP, &unknown), Err(10));
 }

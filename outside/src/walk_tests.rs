@@ -1,5 +1,6 @@
 //! A random walk over both ends: no panic, and the state stays within the limits of question 1.
 
+use crate::both::{DOWN, UP};
 use crate::headend::HeadEnd;
 use crate::limits::{headend_fits, modem_fits};
 use crate::modem::Modem;
@@ -58,7 +59,9 @@ impl Walk {
 
     /// One call; what the modem sends is kept. Gives the number.
     fn step(&mut self, dice: &mut Dice) -> u8 {
-        let yes = dice.roll(8) > 0;
+        // a wrong key now and then
+        let wrong = dice.roll(8) == 0;
+        let (up, down) = if wrong { (DOWN, UP) } else { (UP, DOWN) };
         let (said, number) = (1 + dice.roll(3), dice.roll(16));
         let (number, sent) = match dice.roll(12) {
             0 => flat(self.m.established()),
@@ -67,22 +70,22 @@ impl Walk {
                 let far = [2, 40, 900, 2_000, 90_000][dice.roll(5) as usize];
                 let t = self.h.clock + dice.roll(far);
                 let fresh = vec![dice.roll(256) as u8; 64 * self.h.records.len()];
-                flat(self.h.clock(t, &fresh).and_then(|()| self.m.clock(t)))
+                flat(self.h.clock(t, &fresh).and_then(|()| self.m.clock(t, &up)))
             }
             4..=6 => {
-                let answer = flat(self.h.receive(5, yes, &[1], &pick(&self.ups, dice)));
+                let answer = flat(self.h.receive(5, &up, &down, &[1], &pick(&self.ups, dice)));
                 keep(&mut self.downs, &answer.1);
                 (answer.0, vec![])
             }
-            7..=9 => flat(self.m.receive(yes, &pick(&self.downs, dice))),
-            10 => match self.h.open(0, 5, said, number) {
+            7..=9 => flat(self.m.receive(&down, &up, &pick(&self.downs, dice))),
+            10 => match self.h.open(0, 5, said, number, &down) {
                 Err((n, out)) => {
                     keep(&mut self.downs, &out);
                     (n, vec![])
                 }
                 Ok(_) => flat(self.m.seal(said).map(|_| vec![])),
             },
-            _ => self.m.open(1, 5, said, number).err().unwrap_or_default(),
+            _ => self.m.open(1, 5, said, number, &up).err().unwrap_or_default(),
         };
         keep(&mut self.ups, &sent);
         number

@@ -14,7 +14,7 @@ for fn, args in (("list", "h records address allowed l (material .now)"), ("cloc
     thin("replay_apply", "held", fn + "_held", [], [LENT % "array-lent, array-back", CALLS % ("%sOf, %sRecords" % (fn, fn))],
          right=("%sOf %s" % (fn, args), "%sRecords %s" % (fn, args)), then="record {{ called = {got}; records = {back} }}")
 
-RECEIVE = "h records address digest (message .now) (key .now) (length (out .now))"
+RECEIVE = "h records address (read .now) (write .now) (message .now) (auth .now) (length (out .now))"
 thin("replay_apply", "held", "receive_held", [], [LENT % "array-shown, array-home, Part", OCTETS, CALLS % "receiveOf, receiveOctets"],
      right=("receiveOf " + RECEIVE, "overlay (out .now) (receiveOctets %s)" % RECEIVE))
 
@@ -22,6 +22,6 @@ SEAL = "sealOf h records address said (length (tek .now)) (length (vector .now))
 thin("replay_apply", "held", "seal_held", [], [LENT % "array-shown, array-home, Part", OCTETS, "use Rattle.key_traffic.specs.Sealing.{sealCalled}", "use Rattle.headend_frames.specs.FrameCalls.{sealOf}"],
      right=("sealCalled (%s)" % SEAL,) + written("(%s)" % SEAL, KEY))
 
-OPEN = "openOf h records direction address said number (length (tek .now)) (length (vector .now)) (length (invalid .now))"
+OPEN = "openOf h records direction address said number (write .now) (length (tek .now)) (length (vector .now)) (length (invalid .now))"
 thin("replay_apply", "held", "open_held", [], [LENT % "array-shown, array-home, Part", OCTETS, "use Rattle.headend_frames.specs.FrameCalled.{openCalled}", "use Rattle.headend_frames.specs.FrameCalls.{openOf}"],
      right=("openCalled (%s)" % OPEN,) + written("(%s)" % OPEN, KEY + [("invalid", ".invalid")]))

@@ -6,8 +6,8 @@ HEAD = "use Rattle.curlewreel.specs.HeadEndCalls.{%s}"
 OCTETS = "use Rattle.key_traffic.specs.Octets.{overlay}"
 
 
-def relay(fn, right, then, uses, results=(), settled=None):
-    thin("curlewreel", "headend", "curlewreel_headend_" + fn, list(results), uses, right=right, then=then, settled=settled)
+def relay(fn, right, then, uses, results=()):
+    thin("curlewreel", "headend", "curlewreel_headend_" + fn, list(results), uses, right=right, then=then)
 
 
 def written(over, parts): return tuple("overlay (%s .now) (%s %s)" % (s, over, part) for s, part in parts)
@@ -20,14 +20,10 @@ KEY = [("tek", ".out .tek"), ("vector", ".out .vector")]
 SEAL = "sealOf h (records .now) address said (length (tek .now)) (length (vector .now))"
 relay("seal", ("sealCalled (%s)" % SEAL,) + written("(%s)" % SEAL, KEY), "frameSealed {got}",
       [OCTETS, "use Rattle.key_traffic.specs.Sealing.{sealCalled}", "use Rattle.headend_frames.specs.FrameCalls.{sealOf}", "use Rattle.curlewreel.specs.ModemCalls.{frameSealed}"])
-OPEN = "openOf h (records .now) direction address said {tekno} (length (tek .now)) (length (vector .now)) (length (invalid .now))"
+OPEN = "openOf h (records .now) direction address said {tekno} (write-key .now) (length (tek .now)) (length (vector .now)) (length (invalid .now))"
 relay("open", ("openCalled (%s)" % OPEN,) + written("(%s)" % OPEN, KEY + [("invalid", ".invalid")]), "headEndOpening {got}",
       [OCTETS, "use Rattle.headend_frames.specs.FrameCalls.{openOf}", "use Rattle.headend_frames.specs.FrameCalled.{openCalled}", HEAD % "headEndOpening"],
       [("tekno", "record {{ 0 = number }}")])
-RECEIVE = "{quizzed} (records .now) address {one} (message .now) (key .now) (length (out .now))"
-ASKED = "h (records .now) address digest (message .now) (key .now) (length (out .now))"
-relay("receive", ("receiveOf " + RECEIVE, "overlay (out .now) (receiveOctets %s)" % RECEIVE), "receivedOf h digest {got}",
-      [OCTETS, "use lib.Dec.{eqb}", CALLS % "receiveOf, receiveOctets", HEAD % "askedOf, receivedOf, receiveCall, receiveWritten",
-       "use Rattle.curlewreel.proofs.HeadEndCallLaws.{asked-called, asked-written}"],
-      [("quizzed", "askedOf h digest"), ("one", "eqb digest 1")],
-      [("asked-called " + ASKED, "receiveCall " + ASKED), ("asked-written %s (out .now)" % ASKED, "overlay (out .now) (receiveWritten %s)" % ASKED)])
+RECEIVE = "h (records .now) address (read-key .now) (write-key .now) (message .now) (auth-key .now) (length (out .now))"
+relay("receive", ("receiveOf " + RECEIVE, "overlay (out .now) (receiveOctets %s)" % RECEIVE), "headEndCall {got}",
+      [OCTETS, CALLS % "receiveOf, receiveOctets", HEAD % "headEndCall"])

@@ -14,5 +14,5 @@ def frame(fn, over, handed, uses, written):
 KEY = [("tek", ".out .tek"), ("vector", ".out .vector")]
 frame("seal", "sealedWith h {bad} (length (records .now)) {found} address said (length (tek .now)) (length (vector .now))", "sealCalled",
       ["use Rattle.headend_frames.specs.Frames.{sealedWith}", "use Rattle.key_traffic.specs.Sealing.{sealCalled}"], KEY)
-frame("open", "openedWith h {bad} (length (records .now)) {found} direction address said number (length (tek .now)) (length (vector .now)) (length (invalid .now))",
+frame("open", "openedWith h {bad} (length (records .now)) {found} direction address said number (write-key .now) (length (tek .now)) (length (vector .now)) (length (invalid .now))",
       "openCalled", ["use Rattle.headend_frames.specs.Frames.{openedWith}", "use Rattle.headend_frames.specs.FrameCalled.{openCalled}"], KEY + [("invalid", ".invalid")])

@@ -94,10 +94,10 @@ def reads(s):
     elif s[0] == "if": go(s[1]); [out.update(reads(y)) for y in flat(s[2])]
     return out
 
-def thin(crate, module, fn, results, uses, right=None, change=None, then=None, settled=None, note=""):
+def thin(crate, module, fn, results, uses, right=None, change=None, then=None, note=""):
     here = crate + "::" + (module + "::" if module else "")
     f = find(parse(subprocess.run(["rt", "mir", crate], capture_output=True, text=True).stdout), here + fn)
-    params = [[n, ty(t)] for n, t in FNS[here + fn][0]]
+    params = [[n.replace("_", "-"), ty(t)] for n, t in FNS[here + fn][0]]
     if right:
         for q in params:
             if isinstance(q[1], tuple) and q[1][0] == "mut": q[1] = ("gave", q[1][1])
@@ -164,7 +164,6 @@ def thin(crate, module, fn, results, uses, right=None, change=None, then=None, s
             args = [arg(o) for o in ops]
             if right and not then and into == 0 or then and any(isinstance(x, tuple) for x in args):
                 deps = sorted(set(re.findall(r"\{([\w-]+)\}", " ".join(right))), key=lambda d: [r.name for r in s.results].index(d))
-                if settled: s.settled, s.shown = [y for y, _ in settled], [y for _, y in settled]
                 if not then: s.last(c, args, ops, right, deps, lent=lent); break
                 if lent and lent["mut"]: lent["copy"] = place(later[0][1])[0]; held[lent["copy"]] = "back"; later = later[1:]
                 _, d = callee(later[0])

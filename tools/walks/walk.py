@@ -201,7 +201,7 @@ use denote.Exit.{yes}
 """
 OPEN = "{M : Type 1} (𝓤 : URA M) (H : Heap 𝓤) (A : Atoms 𝓤)"
 BASE = OPEN + " (W : Given 𝓤 H A) (mem : Memory → SProp 𝓤) (run : Routine → Fun 𝓤)"
-LF = [("κ", "q"), ("μ", "p"), ("κ₃", "q₃"), ("κ₄", "q₄"), ("κ₅", "q₅")]
+LF = [("κ", "q"), ("μ", "p"), ("κ₃", "q₃"), ("κ₄", "q₄"), ("κ₅", "q₅"), ("κ₆", "q₆"), ("κ₇", "q₇")]
 
 def pruned(text):
     """the text with the names that no line uses dropped from its `use` lines"""
@@ -427,7 +427,6 @@ class Line:
         for n, t in walk.slices:
             self.items[n] = "‵ (%s ys)" % walk.owns_name(n) if t[0] == "mut" else "‵ %s" % walk.owns_name(n)
             self.items["tok-" + n] = walk.tok(n)
-        self.settled = self.shown = None
         self.begin("stage-1")
     def begin(self, name):
         self.name, self.t0 = name, self.n
@@ -650,7 +649,6 @@ class Line:
                 proofs[0] += " ∙ ap (λ (z : List %s). %s) (%s)" % (lent["elem"].denot, spec.format(**h2), proofs[1])
                 env["back"] = p(closed[1]); del proofs[1], closed[1]
             closed[0] = spec.format(**env)
-        if self.settled: proofs = ["(%s) ∙ (%s)" % (q_, self.settled[n]) if self.settled[n] else q_ for n, q_ in enumerate(proofs)]; closed = self.shown
         pf = "(%s)" % ", ".join(proofs)
         zs = ["zs-" + x for x in outs]
         mine = [x for x, t in w.slices if x in outs]   # in the order of the walk's own parameters

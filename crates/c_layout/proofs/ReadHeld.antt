@@ -1,16 +1,18 @@
 -- The fields of a reading are within what their octets hold: laid out for C, they are taken back as they were.
 use Prim.Native.Nat.{ℕ, _<_}
-use mathlib.Core.Path.{_≡_, refl, ap, _∙_}
-use mathlib.Core.List.{List, [], _++_, append-assoc}
+use mathlib.Core.Path.{_≡_, refl, sym, ap, _∙_}
+use mathlib.Core.List.{List, [], _∷_, _++_, append-assoc}
 use mathlib.Core.Bool.{Bool, true, false, cond}
 use native.Mathlib.Omega.{arith}
-use lib.ListN.{drop}
+use lib.Dec.{eqb}
+use lib.ListN.{getD, drop}
+use lib.Seq.{getD-drop, drop-at}
 use Rattle.questions.specs.declared.refusal.Answer.{Answer}
 use Rattle.questions.specs.declared.refusal.Answer.the-variants.{Done, Refused}
 use Rattle.message_rules.specs.declared.fields.Params.{Params}
 use Rattle.message_rules.specs.declared.fields.Reading.{Reading}
 use Rattle.message_rules.specs.declared.fields.Receiver.{Receiver}
-use Rattle.message_rules.specs.Attributes.{Item, items, itemsWith, values, countOf, valueAt, be16, be32}
+use Rattle.message_rules.specs.Attributes.{Item, items, itemsWith, values, countOf, valueAt, be16, be32, two}
 use Rattle.message_rules.specs.Ranges.{isRequired}
 use Rattle.message_rules.specs.Messages.{codeOf, identifierOf, lengthOf, bodyOf, messageAnswer}
 use Rattle.message_rules.specs.Fields.{keyOctets, paramsOf, descriptorOf, carried, carriedCount, fieldsOf, noDescriptor, noParams, noFields}
@@ -21,8 +23,8 @@ use Rattle.message_rules.proofs.PartsRead.{OctetItems, octet-items, octet-value
 use Rattle.message_rules.proofs.TakenLaws.{Taken, taken, up-to-four, inside-13, told-13}
 use Rattle.message_rules.proofs.FieldsFit.{Shaped}
 use Rattle.message_rules.proofs.ReadFits.{read-shaped}
-use Rattle.c_layout.specs.Layout.{fieldsOctets, placeLaid, readingOctets, fieldsFrom}
-use Rattle.c_layout.proofs.LayoutLaws.{ParamsHeld, DescriptorHeld, Held, fields-back}
+use Rattle.c_layout.specs.Layout.{fieldsOctets, placeLaid, holdsOctet, readingOctets, fieldsFrom}
+use Rattle.c_layout.proofs.LayoutLaws.{ParamsHeld, DescriptorHeld, Held, length-fields, fields-back}
 
 -- ---- numbers of octets
 be16-below : (v : List ℕ) → Octets v → be16 v < 65536
@@ -104,11 +106,20 @@ read-held e s o d =
     fields-held (codeOf s) (items (bodyOf s)) (taken e s d) (octet-items (bodyOf s) (octets-take (lengthOf s) (drop 4 s) (octets-drop 4 s o))) (identifierOf s)
 
 -- ---- a reading, laid out and taken back
-laid-back : (r : Reading) → Shaped (r .fields) → Held (r .fields) → (rest : List ℕ) → fieldsFrom (readingOctets r ++ rest) ≡ r .fields
+laid-back : (r : Reading) (t : Bool) → Shaped (r .fields) → Held (r .fields) → (rest : List ℕ) → fieldsFrom (readingOctets r t ++ rest) ≡ r .fields
 unfolding readingOctets
-laid-back r s h rest =
-    let places = placeLaid (r .key) ++ placeLaid (r .digest) in
-    ap fieldsFrom (append-assoc (fieldsOctets (r .fields)) places rest) ∙ fields-back (r .fields) s h (places ++ rest)
+laid-back r t s h rest =
+    let more = placeLaid (r .key) ++ (placeLaid (r .digest) ++ (holdsOctet t ∷ [])) in
+    ap fieldsFrom (append-assoc (fieldsOctets (r .fields)) more rest) ∙ fields-back (r .fields) s h (more ++ rest)
+
+-- the octet after the fields and the two places
+told-back : (r : Reading) (t : Bool) → Shaped (r .fields) → (rest : List ℕ) → getD (readingOctets r t ++ rest) 117 0 ≡ holdsOctet t
+unfolding readingOctets placeLaid two
+told-back r t s rest =
+    let more = placeLaid (r .key) ++ (placeLaid (r .digest) ++ (holdsOctet t ∷ [])) in
+    ap (λ (l : List ℕ). getD l 117 0) (append-assoc (fieldsOctets (r .fields)) more rest)
+    ∙ sym (getD-drop 109 (fieldsOctets (r .fields) ++ (more ++ rest)) 8 0)
+    ∙ ap (λ (l : List ℕ). getD l 8 0) (drop-at (fieldsOctets (r .fields)) (more ++ rest) 109 (length-fields (r .fields) s))
 
 no-fields-held : Held noFields
 no-fields-held =
@@ -116,14 +127,28 @@ no-fields-held =
     let p : ParamsHeld noParams = record { life = omega arith; tek = omega arith; vector = omega arith } in
     record { said = omega arith; life = omega arith; count = omega arith; first = d; second = d; third = d; fourth = d; older = p; newer = p }
 
+refused-shaped : Shaped noFields
+refused-shaped = record { descriptors = refl; older = record { tek = refl; vector = refl }; newer = record { tek = refl; vector = refl } }
+
 -- The octets of any reading, also of one that refuses, whatever follows them, are its fields
-pub reading-back : (e : Receiver) (s rest : List ℕ) → Octets s → fieldsFrom (readingOctets (readOf e s) ++ rest) ≡ readOf e s .fields
+pub reading-back : (e : Receiver) (s : List ℕ) (t : Bool) (rest : List ℕ) → Octets s → fieldsFrom (readingOctets (readOf e s) t ++ rest) ≡ readOf e s .fields
 unfolding readOf
-reading-back e s rest o = go (messageAnswer e s) refl
+reading-back e s t rest o = go (messageAnswer e s) refl
   where
-    go : (a : Answer) → messageAnswer e s ≡ a → fieldsFrom (readingOctets (readingFor a s) ++ rest) ≡ readingFor a s .fields
-    go Done h = laid-back (takenOf s) (read-shaped s) (read-held e s o h) rest
+    go : (a : Answer) → messageAnswer e s ≡ a → fieldsFrom (readingOctets (readingFor a s) t ++ rest) ≡ readingFor a s .fields
+    go Done h = laid-back (takenOf s) t (read-shaped s) (read-held e s o h) rest
     go (Refused r) h =
-        laid-back (readingFor (Refused r) s)
-        (record { descriptors = refl; older = record { tek = refl; vector = refl }; newer = record { tek = refl; vector = refl } })
-        no-fields-held rest
+        laid-back (readingFor (Refused r) s) t refused-shaped no-fields-held rest
+
+-- And the octet at 117 tells whether the digest holds
+pub reading-told : (e : Receiver) (s : List ℕ) (t : Bool) (rest : List ℕ) → eqb (getD (readingOctets (readOf e s) t ++ rest) 117 0) 1 ≡ t
+unfolding readOf
+reading-told e s t rest = ap (λ (n : ℕ). eqb n 1) (go (messageAnswer e s)) ∙ told t
+  where
+    go : (a : Answer) → getD (readingOctets (readingFor a s) t ++ rest) 117 0 ≡ holdsOctet t
+    go Done = told-back (takenOf s) t (read-shaped s) rest
+    go (Refused r) = told-back (readingFor (Refused r) s) t refused-shaped rest
+
+    told : (b : Bool) → eqb (holdsOctet b) 1 ≡ b
+    told true = refl
+    told false = refl

@@ -1,7 +1,8 @@
--- The fields of a message in octets, for C: 109 of them, and 117 with the places of the AUTH-Key and of the digest. Numbers are
--- big-endian. Places: 0 code, 1 identifier, 2 authorization key number, 3 error, 4 count of descriptors, 5 SAID, 7 life,
--- 11 four descriptors of 5, 31 older TEK-Parameters of 39, 70 newer, 109 the AUTH-Key's place, 113 the digest's place.
+-- The fields of a message in octets, for C: 109 of them, and 118 with the places of the AUTH-Key and of the digest and whether the digest holds.
+-- Numbers are big-endian. Places: 0 code, 1 identifier, 2 authorization key number, 3 error, 4 count of descriptors, 5 SAID, 7 life,
+-- 11 four descriptors of 5, 31 older TEK-Parameters of 39, 70 newer, 109 the AUTH-Key's place, 113 the digest's place, 117 whether it holds.
 use Prim.Native.Nat.{ℕ, _%_}
+use mathlib.Core.Bool.{Bool, true, false}
 use mathlib.Core.List.{List, [], _∷_, _++_}
 use lib.ListN.{getD, take, drop}
 use Rattle.key_traffic.specs.Octets.{octetsOf}
@@ -45,9 +46,15 @@ fieldsOctets f = headLaid f ++ (descriptorsLaid (f .descriptors) ++ (paramsLaid 
 unfoldable pub placeLaid : Place → List ℕ
 placeLaid p = two (p .start) ++ two (p .len)
 
--- 117
-unfoldable pub readingOctets : Reading → List ℕ
-readingOctets r = fieldsOctets (r .fields) ++ (placeLaid (r .key) ++ placeLaid (r .digest))
+-- Whether the digest of the message that was read holds under the key; 0 too where it has none
+abbrev pub holdsOctet : Bool → ℕ
+holdsOctet true = 1
+holdsOctet false = 0
+
+-- 118
+unfoldable pub readingOctets : Reading → Bool → List ℕ
+readingOctets r holds =
+    fieldsOctets (r .fields) ++ (placeLaid (r .key) ++ (placeLaid (r .digest) ++ (holdsOctet holds ∷ [])))
 
 -- ---- from octets; past the end they are 0
 

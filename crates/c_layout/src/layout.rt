@@ -1,8 +1,9 @@
-// The fields of a message in octets, for C: read from 109 of them, or put into 117 with the places of the AUTH-Key and the digest.
+// The fields of a message in octets, for C: read from 109 of them, or put into 118 with the places of the AUTH-Key and the digest and whether it
+// holds.
 ghost use Prim.Native.Nat.{_+_, _≤_};
 ghost use mathlib.Core.Path.{_≡_};
 ghost use Rattle.key_traffic.specs.Put.{Put};
-ghost use Rattle.c_layout.specs.Layout.{keyLaid, paramsLaid, descriptorLaid, descriptorsLaid, headLaid, fieldsOctets, placeLaid, readingOctets, keyFrom, paramsFrom, descriptorFrom, descriptorsFrom, fieldsFrom};
+ghost use Rattle.c_layout.specs.Layout.{keyLaid, paramsLaid, descriptorLaid, descriptorsLaid, headLaid, fieldsOctets, placeLaid, holdsOctet, readingOctets, keyFrom, paramsFrom, descriptorFrom, descriptorsFrom, fieldsFrom};
 use key_traffic::numbers::AkNumber;
 use key_traffic::numbers::TekNumber;
 use key_traffic::octets::KEY_OCTETS;
@@ -44,7 +45,12 @@ const FIELD_NEWER: usize = 70;
 // Octets that a writing takes, and those that a reading gives.
 pub const FIELDS_WRITTEN: usize = 109;
 
-pub const FIELDS: usize = 117;
+pub const FIELDS: usize = 118;
+
+// Whether the digest holds.
+const DIGEST_NO: u8 = 0;
+
+const DIGEST_YES: u8 = 1;
 
 // Within a descriptor, and its octets.
 const DESCRIPTOR_SAID: usize = 0;
@@ -264,15 +270,26 @@ fn put_place(out: &mut [u8], at: usize, p: Place) -> usize
     put_octets(out, at, &all)
 }
 
-// The fields and the two places, in 117 octets.
-pub fn put_reading(out: &mut [u8], r: Reading) -> usize
-    ensures { λ n. ⌜ Put (now (out .entry)) 0 (readingOctets r) n (now (out .exit)) ⌝ }
-    ensures { λ n. ⌜ n ≡ 117 ⌝ }
+fn holds_octet(holds: bool) -> u8
+    ensures { λ r. ⌜ r ≡ holdsOctet holds ⌝ }
+{
+    if holds {
+        return DIGEST_YES;
+    }
+    DIGEST_NO
+}
+
+// The fields, the two places and whether the digest holds, in 118 octets.
+pub fn put_reading(out: &mut [u8], r: Reading, holds: bool) -> usize
+    ensures { λ n. ⌜ Put (now (out .entry)) 0 (readingOctets r holds) n (now (out .exit)) ⌝ }
+    ensures { λ n. ⌜ n ≡ 118 ⌝ }
 {
     let fields = r.fields;
     let key = r.key;
     let digest = r.digest;
     let a = put_fields(out, fields);
     let b = put_place(out, a, key);
-    put_place(out, b, digest)
+    let c = put_place(out, b, digest);
+    let last = [holds_octet(holds)];
+    put_octets(out, c, &last)
 }

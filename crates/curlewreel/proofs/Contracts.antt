@@ -14,7 +14,7 @@ use Rattle.modem_steps.specs.declared.state.Modem.{Modem}
 use Rattle.headend_calls.specs.Calls as Head
 use Rattle.headend_frames.specs.FrameCalls as HeadFrames
 use Rattle.headend_frames.specs.FrameCalled as HeadCalled
-use Rattle.modem_calls.specs.Calls.{establishedOf, reauthOf, clockOf}
+use Rattle.modem_calls.specs.Calls.{establishedOf, reauthOf, clockOf, receiveOf}
 use Rattle.modem_frames.specs.Frames.{sealOf, openOf}
 use Rattle.modem_frames.specs.FrameCalled.{openCalled}
 use Rattle.curlewreel.specs.declared.modem_values.ModemCall.{ModemCall}
@@ -22,7 +22,7 @@ use Rattle.curlewreel.specs.declared.modem_values.ModemOpening.{ModemOpe
 use Rattle.curlewreel.specs.declared.modem_values.FrameSealed.{FrameSealed}
 use Rattle.curlewreel.specs.declared.headend_values.HeadEndCall.{HeadEndCall}
 use Rattle.curlewreel.specs.declared.headend_values.HeadEndOpening.{HeadEndOpening}
-use Rattle.curlewreel.specs.ModemCalls.{modemCall, receiveCall, receiveWritten, frameSealed, modemOpening, ModemGives, ModemReceives, FrameSeals, ModemOpens}
+use Rattle.curlewreel.specs.ModemCalls.{modemCall, frameSealed, modemOpening, ModemGives, FrameSeals, ModemOpens}
 use Rattle.curlewreel.specs.HeadEndCalls as C
 
 -- ---- the modem
@@ -36,13 +36,14 @@ module _ (m : Modem) (out out-after : List ℕ) (r : ModemCall) where
       → (r ≡ modemCall (reauthOf m (length out) .called)) × (out-after ≡ overlay out (reauthOf m (length out) .written))
   reauth-says h = h
 
-  pub clock-says : (t : ℕ) → ModemGives (clockOf m t (length out)) out r out-after
-      → (r ≡ modemCall (clockOf m t (length out) .called)) × (out-after ≡ overlay out (clockOf m t (length out) .written))
-  clock-says t h = h
+  pub clock-says : (t : ℕ) (write : List ℕ) → ModemGives (clockOf m t write (length out)) out r out-after
+      → (r ≡ modemCall (clockOf m t write (length out) .called)) × (out-after ≡ overlay out (clockOf m t write (length out) .written))
+  clock-says t write h = h
 
-  pub receive-says : (message : List ℕ) (digest : ℕ) → ModemReceives m message digest out r out-after
-      → (r ≡ receiveCall m message digest (length out)) × (out-after ≡ overlay out (receiveWritten m message digest (length out)))
-  receive-says message digest h = h
+  pub receive-says : (message read write : List ℕ) → ModemGives (receiveOf m message read write (length out)) out r out-after
+      → (r ≡ modemCall (receiveOf m message read write (length out) .called))
+      × (out-after ≡ overlay out (receiveOf m message read write (length out) .written))
+  receive-says message read write h = h
 
 module _ (m : Modem) (said : ℕ) (tek vector tek-after vector-after : List ℕ) where
   pub seal-says : (r : FrameSealed) → FrameSeals (sealOf m said (length tek) (length vector)) tek vector r tek-after vector-after
@@ -51,13 +52,13 @@ module _ (m : Modem) (said : ℕ) (tek vector tek-after vector-after : List ℕ)
       × (vector-after ≡ overlay vector (sealOf m said (length tek) (length vector) .out .vector))
   seal-says r h = h
 
-  pub open-says : (direction address : ℕ) (number : TekNumber) (out out-after : List ℕ) (r : ModemOpening)
-      → ModemOpens (openOf m direction address said number (length tek) (length vector) (length out)) tek vector out r tek-after vector-after out-after
-      → (r ≡ modemOpening (openCalled (openOf m direction address said number (length tek) (length vector) (length out))))
-      × (tek-after ≡ overlay tek (openOf m direction address said number (length tek) (length vector) (length out) .out .tek))
-      × (vector-after ≡ overlay vector (openOf m direction address said number (length tek) (length vector) (length out) .out .vector))
-      × (out-after ≡ overlay out (openOf m direction address said number (length tek) (length vector) (length out) .sent))
-  open-says direction address number out out-after r h = h
+  pub open-says : (direction address : ℕ) (number : TekNumber) (write out out-after : List ℕ) (r : ModemOpening)
+      → ModemOpens (openOf m direction address said number write (length tek) (length vector) (length out)) tek vector out r tek-after vector-after out-after
+      → (r ≡ modemOpening (openCalled (openOf m direction address said number write (length tek) (length vector) (length out))))
+      × (tek-after ≡ overlay tek (openOf m direction address said number write (length tek) (length vector) (length out) .out .tek))
+      × (vector-after ≡ overlay vector (openOf m direction address said number write (length tek) (length vector) (length out) .out .vector))
+      × (out-after ≡ overlay out (openOf m direction address said number write (length tek) (length vector) (length out) .sent))
+  open-says direction address number write out out-after r h = h
 
 -- ---- the head-end
 
@@ -71,11 +72,11 @@ module _ (h : HeadEnd) (records records-after : List Assoc) (material : List ℕ
   head-clock-says t k = k
 
 module _ (h : HeadEnd) (records : List Assoc) (address : ℕ) where
-  pub head-receive-says : (digest : ℕ) (message key out out-after : List ℕ) (r : HeadEndCall)
-      → C.HeadEndReceives h records address digest message key out r out-after
-      → (r ≡ C.receiveCall h records address digest message key (length out))
-      × (out-after ≡ overlay out (C.receiveWritten h records address digest message key (length out)))
-  head-receive-says digest message key out out-after r k = k
+  pub head-receive-says : (message read write auth out out-after : List ℕ) (r : HeadEndCall)
+      → C.HeadEndReceives h records address message read write auth out r out-after
+      → (r ≡ C.headEndCall (Head.receiveOf h records address read write message auth (length out)))
+      × (out-after ≡ overlay out (Head.receiveOctets h records address read write message auth (length out)))
+  head-receive-says message read write auth out out-after r k = k
 
   pub head-seal-says : (said : ℕ) (tek vector tek-after vector-after : List ℕ) (r : FrameSealed)
       → FrameSeals (HeadFrames.sealOf h records address said (length tek) (length vector)) tek vector r tek-after vector-after
@@ -84,11 +85,11 @@ module _ (h : HeadEnd) (records : List Assoc) (address : ℕ) where
       × (vector-after ≡ overlay vector (HeadFrames.sealOf h records address said (length tek) (length vector) .out .vector))
   head-seal-says said tek vector tek-after vector-after r k = k
 
-  pub head-open-says : (direction said : ℕ) (number : TekNumber) (tek vector invalid tek-after vector-after invalid-after : List ℕ) (r : HeadEndOpening)
-      → C.HeadEndOpens (HeadFrames.openOf h records direction address said number (length tek) (length vector) (length invalid)) tek vector invalid r
+  pub head-open-says : (direction said : ℕ) (number : TekNumber) (write tek vector invalid tek-after vector-after invalid-after : List ℕ) (r : HeadEndOpening)
+      → C.HeadEndOpens (HeadFrames.openOf h records direction address said number write (length tek) (length vector) (length invalid)) tek vector invalid r
       tek-after vector-after invalid-after
-      → (r ≡ C.headEndOpening (HeadCalled.openCalled (HeadFrames.openOf h records direction address said number (length tek) (length vector) (length invalid))))
-      × (tek-after ≡ overlay tek (HeadFrames.openOf h records direction address said number (length tek) (length vector) (length invalid) .out .tek))
-      × (vector-after ≡ overlay vector (HeadFrames.openOf h records direction address said number (length tek) (length vector) (length invalid) .out .vector))
-      × (invalid-after ≡ overlay invalid (HeadFrames.openOf h records direction address said number (length tek) (length vector) (length invalid) .invalid))
-  head-open-says direction said number tek vector invalid tek-after vector-after invalid-after r k = k
+      → (r ≡ C.headEndOpening (HeadCalled.openCalled (HeadFrames.openOf h records direction address said number write (length tek) (length vector) (length invalid))))
+      × (tek-after ≡ overlay tek (HeadFrames.openOf h records direction address said number write (length tek) (length vector) (length invalid) .out .tek))
+      × (vector-after ≡ overlay vector (HeadFrames.openOf h records direction address said number write (length tek) (length vector) (length invalid) .out .vector))
+      × (invalid-after ≡ overlay invalid (HeadFrames.openOf h records direction address said number write (length tek) (length vector) (length invalid) .invalid))
+  head-open-says direction said number write tek vector invalid tek-after vector-after invalid-after r k = k

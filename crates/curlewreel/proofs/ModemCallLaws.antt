@@ -1,21 +1,14 @@
 -- What a call of the modem hands to C, from what the call itself gives.
 use mathlib.Core.Path.{_≡_, _∙_, ap}
-use mathlib.Core.Bool.{true, false}
-use mathlib.Core.List.{List}
-use lib.Dec.{leb, eqb}
-use lib.ListN.{length}
-use Rattle.key_traffic.specs.Octets.{overlay}
 use Rattle.key_traffic.specs.declared.sealing.SealedCall.{SealedCall}
-use Rattle.modem_steps.specs.declared.state.Modem.{Modem}
 use Rattle.modem_frames.specs.declared.rules.OpenedCall.{OpenedCall}
-use Rattle.modem_calls.specs.Calls.{receiveOf}
 use Rattle.curlewreel.specs.declared.modem_values.FrameSealed.{FrameSealed}
 use Rattle.curlewreel.specs.declared.modem_values.ModemOpening.{ModemOpening}
 use Prim.Native.Nat.{ℕ}
 use Rattle.questions.specs.Refusal.{answerNumber}
 use Rattle.modem_steps.specs.declared.state.Called.{Called}
 use Rattle.curlewreel.specs.declared.modem_values.ModemCall.{ModemCall}
-use Rattle.curlewreel.specs.ModemCalls.{modemCall, receiveCall, receiveWritten, frameSealed, modemOpening}
+use Rattle.curlewreel.specs.ModemCalls.{modemCall, frameSealed, modemOpening}
 
 pub numbered : (c : Called) (n : ℕ) → n ≡ answerNumber (c .answer) → record { number = n; count = c .count; modem = c .modem } ≡ modemCall c
 numbered c n e = ap (λ k. record { number = k; count = c .count; modem = c .modem }) e
@@ -34,15 +27,3 @@ opened c n e = ap (λ k. record { number = k; width = c .width; count = c .count
 
 pub opened-as : (c d : OpenedCall) (r : ModemOpening) → r ≡ modemOpening c → c ≡ d → r ≡ modemOpening d
 opened-as c d r e f = e ∙ ap modemOpening f
-
--- A digest word that is neither 0 nor 1
-pub flag-refused : (m : Modem) (s : List ℕ) (digest : ℕ) (out : List ℕ) → leb digest 1 ≡ false
-    → (record { number = 1; count = 0; modem = m } ≡ receiveCall m s digest (length out)) × (out ≡ overlay out (receiveWritten m s digest (length out)))
-flag-refused m s digest out e = (simp e, simp e)
-
--- One of them
-pub flag-taken : (m : Modem) (s : List ℕ) (digest : ℕ) (out after : List ℕ) (r : ModemCall) → leb digest 1 ≡ true
-    → r ≡ modemCall (receiveOf m s (eqb digest 1) (length out) .called)
-    → after ≡ overlay out (receiveOf m s (eqb digest 1) (length out) .written)
-    → (r ≡ receiveCall m s digest (length out)) × (after ≡ overlay out (receiveWritten m s digest (length out)))
-flag-taken m s digest out after r e f g = (simp e f, simp e g)

@@ -1,7 +1,7 @@
 -- Laws of the reading for C (`specs/Read.antt`): what each answer is, and what it leaves in the lent slice.
 use Prim.Native.Nat.{ℕ, zero, suc, _≤_}
 use mathlib.Core.Path.{_≡_, refl, sym, _∙_, ap, subst}
-use mathlib.Core.Bool.{true, false}
+use mathlib.Core.Bool.{Bool, true, false, _&&_}
 use mathlib.Core.List.{List}
 use native.Mathlib.Omega.{arith}
 use lib.Dec.{leb}
@@ -19,8 +19,10 @@ use Rattle.message_rules.proofs.MessageAnswers.{reader-answer}
 use Rattle.key_traffic.specs.Put.{Put}
 use Rattle.key_traffic.proofs.StoreLaws.{put-whole}
 use Rattle.questions.proofs.AnswerLaws.{refusal-number}
+use Rattle.questions.proofs.TestLaws.{both}
+use Rattle.message_digest.specs.Digest.{digestHolds, messageKeyFits}
 use Rattle.c_layout.specs.Layout.{readingOctets}
-use Rattle.curlewreel.specs.Read.{receiverAt, readQuestions, Call, callFor, readCallOf, Answers}
+use Rattle.curlewreel.specs.Read.{receiverAt, readQuestions, readOctets, Call, callFor, readCallOf, Answers}
 
 pub not-head-end : (n : ℕ) → (n ≡ 0 → ⊥) → Modem ≡ receiverAt n
 not-head-end zero h = absurd (h refl)
@@ -35,35 +37,43 @@ module _ (octets d : List ℕ) where
   call-done Done n e z after h = record { answers = refl; holds = h }
   call-done (Refused r) n e z after h = absurd (refusal-number r (sym e ∙ z))
 
--- where the end is one of the two and the slice is long enough, the call is the reader's
-pub read-asked : (end : ℕ) (s : List ℕ) (lent : ℕ) → leb end 1 ≡ true → leb 117 lent ≡ true
-    → readCallOf end s lent ≡ callFor (readerAnswer (receiverAt end) s) (readingOctets (readerOf (receiverAt end) s))
-unfolding readCallOf readQuestions readerAnswer
-read-asked end s lent q₁ q₂ = simp (q₁, q₂)
+-- question 2 as the code asks it
+pub lengths-are : (b t : Bool) (key d : List ℕ) → b ≡ messageKeyFits key → (b && leb 118 (length d)) ≡ t → (messageKeyFits key && leb 118 (length d)) ≡ t
+lengths-are b t key d e h = ap (λ (x : Bool). x && leb 118 (length d)) (sym e) ∙ h
 
-module _ (end : ℕ) (s d : List ℕ) where
-  pub end-refused : leb end 1 ≡ false → Answers (readCallOf end s (length d)) d 1 d
+-- where the end is one of the two, the key has its length and the slice is long enough, the call is the reader's
+pub read-asked : (end : ℕ) (s key : List ℕ) (lent : ℕ) → leb end 1 ≡ true → (messageKeyFits key && leb 118 lent) ≡ true
+    → readCallOf end s key lent ≡ callFor (readerAnswer (receiverAt end) s) (readOctets (receiverAt end) s key)
+unfolding readCallOf readQuestions readerAnswer
+read-asked end s key lent q₁ q₂ = simp (q₁, q₂)
+
+module _ (end : ℕ) (s key d : List ℕ) where
+  pub end-refused : leb end 1 ≡ false → Answers (readCallOf end s key (length d)) d 1 d
   unfolding readCallOf readQuestions
   end-refused q₁ = simp q₁ (record { answers = refl; holds = refl })
 
   module _ (q₁ : leb end 1 ≡ true) where
-    pub slice-refused : leb 117 (length d) ≡ false → Answers (readCallOf end s (length d)) d 2 d
+    pub lengths-refused : (messageKeyFits key && leb 118 (length d)) ≡ false → Answers (readCallOf end s key (length d)) d 2 d
     unfolding readCallOf readQuestions
-    slice-refused q₂ = simp (q₁, q₂) (record { answers = refl; holds = refl })
+    lengths-refused q₂ = simp (q₁, q₂) (record { answers = refl; holds = refl })
 
-    module _ (q₂ : leb 117 (length d) ≡ true) where
+    module _ (q₂ : (messageKeyFits key && leb 118 (length d)) ≡ true) where
       module _ (r : Reading) (is : r ≡ readerOf (receiverAt end) s) (n : ℕ) (number : n ≡ answerNumber (r .answer)) where
         answered : n ≡ answerNumber (readerAnswer (receiverAt end) s)
         answered = number ∙ ap (λ (x : Reading). answerNumber (x .answer)) is ∙ ap answerNumber (reader-answer (receiverAt end) s)
 
-        pub message-refused : (n ≡ 0 → ⊥) → Answers (readCallOf end s (length d)) d n d
+        pub message-refused : (n ≡ 0 → ⊥) → Answers (readCallOf end s key (length d)) d n d
         message-refused h =
-            subst (λ (c : Call). Answers c d n d) (sym (read-asked end s (length d) q₁ q₂))
-            (call-refused (readingOctets (readerOf (receiverAt end) s)) d (readerAnswer (receiverAt end) s) n answered h)
+            subst (λ (c : Call). Answers c d n d) (sym (read-asked end s key (length d) q₁ q₂))
+            (call-refused (readOctets (receiverAt end) s key) d (readerAnswer (receiverAt end) s) n answered h)
 
-        pub message-read : n ≡ 0 → {k : ℕ} {after : List ℕ} → Put d 0 (readingOctets r) k after → k ≡ 117 → Answers (readCallOf end s (length d)) d 0 after
-        message-read z {k} {after} p all =
-            let fits : length (readingOctets r) ≤ length d = omega (arith, p .after, all, leb-true 117 (length d) q₂) in
-            subst (λ (c : Call). Answers c d 0 after) (sym (read-asked end s (length d) q₁ q₂))
-            (call-done (readingOctets (readerOf (receiverAt end) s)) d (readerAnswer (receiverAt end) s) n answered z after
-            (put-whole p fits ∙ ap (λ (x : Reading). overlay d (readingOctets x)) is))
+        pub message-read : n ≡ 0 → (t : Bool) → t ≡ digestHolds key (r .digest) s → {k : ℕ} {after : List ℕ} → Put d 0 (readingOctets r t) k after → k ≡ 118
+            → Answers (readCallOf end s key (length d)) d 0 after
+        message-read z t told {k} {after} p all =
+            let wide = leb-true 118 (length d) (both (messageKeyFits key) (leb 118 (length d)) q₂ .1) in
+            let fits : length (readingOctets r t) ≤ length d = omega (arith, p .after, all, wide) in
+            subst (λ (c : Call). Answers c d 0 after) (sym (read-asked end s key (length d) q₁ q₂))
+            (call-done (readOctets (receiverAt end) s key) d (readerAnswer (receiverAt end) s) n answered z after
+            (put-whole p fits
+            ∙ ap (λ (b : Bool). overlay d (readingOctets r b)) told
+            ∙ ap (λ (x : Reading). overlay d (readingOctets x (digestHolds key (x .digest) s))) is))

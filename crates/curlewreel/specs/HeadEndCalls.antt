@@ -1,42 +1,23 @@
 -- The head-end for C: what its calls hand back, with document 01's number for the answer.
 use lib.ListN.{length}
 use mathlib.Core.Path.{_≡_}
-use mathlib.Core.Bool.{cond}
-use mathlib.Core.List.{List, []}
+use mathlib.Core.List.{List}
 use Prim.Native.Nat.{ℕ}
-use lib.Dec.{leb, eqb}
 use Rattle.headend_frames.specs.FrameCalled.{openCalled}
 use Rattle.headend_frames.specs.Frames.{HeadOpened}
 use Rattle.key_association.specs.declared.listing.Listing.{Listing}
 use Rattle.key_traffic.specs.Octets.{overlay}
-use Rattle.questions.specs.declared.refusal.Refusal.the-variants.{OutOfLimits}
-use Rattle.questions.specs.Refusal.{numberOf, answerNumber}
-use Rattle.questions.specs.Settings.{noSettings}
+use Rattle.questions.specs.Refusal.{answerNumber}
 use Rattle.key_association.specs.declared.record.Assoc.{Assoc}
 use Rattle.headend_state.specs.declared.state.Called.{Called}
 use Rattle.headend_state.specs.declared.state.HeadEnd.{HeadEnd}
 use Rattle.headend_frames.specs.declared.frames.OpenedCall.{OpenedCall}
-use Rattle.headend_state.specs.State.{freshOf}
 use Rattle.headend_calls.specs.Calls.{receiveOf, receiveOctets, listOf, listRecords, clockOf, clockRecords}
 use Rattle.curlewreel.specs.declared.headend_values.HeadEndCall.{HeadEndCall}
 use Rattle.curlewreel.specs.declared.headend_values.HeadEndOpening.{HeadEndOpening}
 
 abbrev pub headEndCall : Called → HeadEndCall
 headEndCall c = record { number = answerNumber (c .answer); count = c .count; headend = c .state }
-
--- A digest word other than 0 and 1 is out of the limits (1): nothing is changed or written
-abbrev pub receivedOf : HeadEnd → ℕ → Called → HeadEndCall
-receivedOf h digest c = cond (leb digest 1) (headEndCall c) (record { number = numberOf OutOfLimits; count = 0; headend = h })
-
-abbrev pub receiveCall : HeadEnd → List Assoc → ℕ → ℕ → List ℕ → List ℕ → ℕ → HeadEndCall
-receiveCall h xs address digest s key lent = receivedOf h digest (receiveOf h xs address (eqb digest 1) s key lent)
-
-abbrev pub receiveWritten : HeadEnd → List Assoc → ℕ → ℕ → List ℕ → List ℕ → ℕ → List ℕ
-receiveWritten h xs address digest s key lent = cond (leb digest 1) (receiveOctets h xs address (eqb digest 1) s key lent) []
-
--- The head-end that the code asks, one out of its limits for such a word
-abbrev pub askedOf : HeadEnd → ℕ → HeadEnd
-askedOf h digest = cond (leb digest 1) h (freshOf noSettings)
 
 abbrev pub headEndOpening : OpenedCall → HeadEndOpening
 headEndOpening c = record { number = answerNumber (c .answer); width = c .width; count = c .count; headend = c .state }
@@ -53,10 +34,11 @@ HeadEndClocks h records t material r records-after =
     (r ≡ headEndCall (clockOf h records t material))
     × (records-after ≡ clockRecords h records t material)
 
-abbrev pub HeadEndReceives : HeadEnd → List Assoc → ℕ → ℕ → List ℕ → List ℕ → List ℕ → HeadEndCall → List ℕ → Type 0
-HeadEndReceives h records address digest message key out r out-after =
-    (r ≡ receiveCall h records address digest message key (length out))
-    × (out-after ≡ overlay out (receiveWritten h records address digest message key (length out)))
+-- `read` and `write` are the message keys, `auth` the AUTH-Key
+abbrev pub HeadEndReceives : HeadEnd → List Assoc → ℕ → List ℕ → List ℕ → List ℕ → List ℕ → List ℕ → HeadEndCall → List ℕ → Type 0
+HeadEndReceives h records address message read write auth out r out-after =
+    (r ≡ headEndCall (receiveOf h records address read write message auth (length out)))
+    × (out-after ≡ overlay out (receiveOctets h records address read write message auth (length out)))
 
 abbrev pub HeadEndOpens : HeadOpened → List ℕ → List ℕ → List ℕ → HeadEndOpening → List ℕ → List ℕ → List ℕ → Type 0
 HeadEndOpens g tek vector invalid r tek-after vector-after invalid-after =

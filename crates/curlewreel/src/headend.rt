@@ -8,11 +8,8 @@ ghost use Rattle.curlewreel.specs.ModemCalls.{FrameSeals};
 ghost use Rattle.curlewreel.specs.HeadEndCalls.{headEndCall, HeadEndLists, HeadEndClocks, HeadEndReceives, HeadEndOpens};
 use crate::headend_values::HeadEndCall;
 use crate::headend_values::HeadEndOpening;
-use crate::headend_values::asked;
 use crate::headend_values::headend_call;
 use crate::headend_values::headend_opening;
-use crate::headend_values::is_one;
-use crate::headend_values::received;
 use crate::headend_values::tek_number;
 use crate::modem_values::FrameSealed;
 use crate::modem_values::frame_sealed;
@@ -66,23 +63,31 @@ pub extern "C" fn curlewreel_headend_clock(
     headend_call(c)
 }
 
-// A message from the modem of that address; `digest` is 1 where its digest holds and 0 where not, and any other is out of the limits.
+// A message from the modem of that address; its digest is asked under `read_key`, and the answer has its digest under `write_key`.
 #[no_mangle]
 pub extern "C" fn curlewreel_headend_receive(
     h: HeadEnd,
     records: &[Assoc],
     address: u64,
     message: &[u8],
-    digest: u8,
-    key: &[u8],
+    read_key: &[u8],
+    write_key: &[u8],
+    auth_key: &[u8],
     out: &mut [u8],
 ) -> HeadEndCall
-    ensures { λ r. ⌜ HeadEndReceives h (now (records .entry)) address digest (now (message .entry)) (now (key .entry)) (now (out .entry)) r (now (out .exit)) ⌝ }
+    ensures { λ r. ⌜ HeadEndReceives h (now (records .entry)) address (now (message .entry)) (now («read_key» .entry)) (now («write_key» .entry)) (now («auth_key» .entry)) (now (out .entry)) r (now (out .exit)) ⌝ }
 {
-    let a = asked(h, digest);
-    let d = is_one(digest);
-    let c = receive(a, records, address, d, message, key, out);
-    received(h, digest, c)
+    let c = receive(
+        h,
+        records,
+        address,
+        read_key,
+        write_key,
+        message,
+        auth_key,
+        out,
+    );
+    headend_call(c)
 }
 
 // The older key of a SAID of that modem, to seal a frame with.
@@ -102,7 +107,7 @@ pub extern "C" fn curlewreel_headend_seal(
     frame_sealed(c)
 }
 
-// The held key with the number of a frame from that modem; where there is none, a TEK Invalid may go to `invalid`.
+// The held key with the number of a frame from that modem; where there is none, a TEK Invalid may go to `invalid`, with its digest under `write_key`.
 #[no_mangle]
 pub extern "C" fn curlewreel_headend_open(
     h: HeadEnd,
@@ -111,11 +116,12 @@ pub extern "C" fn curlewreel_headend_open(
     address: u64,
     said: u16,
     number: u8,
+    write_key: &[u8],
     tek: &mut [u8],
     vector: &mut [u8],
     invalid: &mut [u8],
 ) -> HeadEndOpening
-    ensures { λ r. ⌜ HeadEndOpens (openOf h (now (records .entry)) direction address said (record { 0 = number }) (length (now (tek .entry))) (length (now (vector .entry))) (length (now (invalid .entry))))
+    ensures { λ r. ⌜ HeadEndOpens (openOf h (now (records .entry)) direction address said (record { 0 = number }) (now («write_key» .entry)) (length (now (tek .entry))) (length (now (vector .entry))) (length (now (invalid .entry))))
         (now (tek .entry)) (now (vector .entry)) (now (invalid .entry)) r (now (tek .exit)) (now (vector .exit)) (now (invalid .exit)) ⌝ }
 {
     let n = tek_number(number);
@@ -126,6 +132,7 @@ pub extern "C" fn curlewreel_headend_open(
         address,
         said,
         n,
+        write_key,
         tek,
         vector,
         invalid,

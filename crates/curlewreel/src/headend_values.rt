@@ -1,17 +1,11 @@
-// What the head-end's calls hand to C, by value: document 01's number for the answer; and the digest word.
+// What the head-end's calls hand to C, by value: document 01's number for the answer.
 ghost use mathlib.Core.Path.{_≡_};
-ghost use lib.Dec.{eqb};
-ghost use Rattle.curlewreel.specs.HeadEndCalls.{headEndCall, askedOf, receivedOf, headEndOpening};
-use crate::words::DIGEST_MAX;
-use crate::words::DIGEST_YES;
+ghost use Rattle.curlewreel.specs.HeadEndCalls.{headEndCall, headEndOpening};
 use headend_frames::frames::OpenedCall;
 use headend_state::state::Called;
 use headend_state::state::HeadEnd;
-use headend_state::state::fresh;
 use key_traffic::numbers::TekNumber;
-use questions::refusal::OUT_OF_LIMITS;
 use questions::refusal::answer_number;
-use questions::settings::no_settings;
 
 // What a call answers: document 01's number, how many octets of an answer were written, and the head-end after it.
 #[repr(C)]
@@ -33,38 +27,6 @@ pub fn headend_call(c: Called) -> HeadEndCall
         count: c.count,
         headend: h,
     }
-}
-
-// The head-end that is asked: where the digest word is neither 0 nor 1, one whose settings are out of their limits, so that the call is
-// refused with 1 before it looks further.
-pub fn asked(h: HeadEnd, digest: u8) -> HeadEnd
-    ensures { λ r. ⌜ r ≡ askedOf h digest ⌝ }
-{
-    if DIGEST_MAX < digest {
-        return fresh(no_settings());
-    }
-    h
-}
-
-// Whether the digest word says that the digest holds.
-pub fn is_one(digest: u8) -> bool
-    ensures { λ r. ⌜ r ≡ eqb digest 1 ⌝ }
-{
-    digest == DIGEST_YES
-}
-
-// What is handed back: where the digest word is out of the limits, the caller's own head-end.
-pub fn received(h: HeadEnd, digest: u8, c: Called) -> HeadEndCall
-    ensures { λ r. ⌜ r ≡ receivedOf h digest c ⌝ }
-{
-    if DIGEST_MAX < digest {
-        return HeadEndCall {
-            number: OUT_OF_LIMITS,
-            count: 0,
-            headend: h,
-        };
-    }
-    headend_call(c)
 }
 
 // What opening at the head-end answers: document 01's number, how many octets of TEK and of vector were written, how many of a TEK

@@ -1,17 +1,15 @@
 // The modem for C: every call with the state by value in and out, and the answer as document 01's number.
 ghost use mathlib.Core.Path.{_≡_};
 ghost use lib.ListN.{length};
-ghost use Rattle.modem_calls.specs.Calls.{newOf, establishedOf, reauthOf, clockOf};
+ghost use Rattle.modem_calls.specs.Calls.{newOf, establishedOf, reauthOf, clockOf, receiveOf};
 ghost use Rattle.modem_frames.specs.Frames.{sealOf, openOf};
-ghost use Rattle.curlewreel.specs.ModemCalls.{modemCall, ModemGives, FrameSeals, ModemOpens, ModemReceives};
+ghost use Rattle.curlewreel.specs.ModemCalls.{modemCall, ModemGives, FrameSeals, ModemOpens};
 use crate::modem_values::FrameSealed;
 use crate::modem_values::ModemCall;
 use crate::modem_values::ModemOpening;
 use crate::modem_values::frame_sealed;
 use crate::modem_values::modem_call;
 use crate::modem_values::modem_opening;
-use crate::words::DIGEST_MAX;
-use crate::words::DIGEST_YES;
 use key_traffic::numbers::TekNumber;
 use modem_calls::calls::clock;
 use modem_calls::calls::established;
@@ -21,7 +19,6 @@ use modem_calls::calls::receive;
 use modem_frames::frames::open;
 use modem_frames::frames::seal;
 use modem_steps::state::Modem;
-use questions::refusal::OUT_OF_LIMITS;
 use questions::settings::Settings;
 
 // A fresh modem at clock 0; where it is refused, one that is all zero.
@@ -53,34 +50,34 @@ pub extern "C" fn curlewreel_modem_reauth(m: Modem, out: &mut [u8]) -> ModemCall
     modem_call(c)
 }
 
-// The clock goes to second `t`, and due timers fire; what they send goes to `out`.
+// The clock goes to second `t`, and due timers fire; what they send goes to `out`, with its digests under `write_key`.
 #[no_mangle]
-pub extern "C" fn curlewreel_modem_clock(m: Modem, t: u64, out: &mut [u8]) -> ModemCall
-    ensures { λ r. ⌜ ModemGives (clockOf m t (length (now (out .entry))))
+pub extern "C" fn curlewreel_modem_clock(
+    m: Modem,
+    t: u64,
+    write_key: &[u8],
+    out: &mut [u8],
+) -> ModemCall
+    ensures { λ r. ⌜ ModemGives (clockOf m t (now («write_key» .entry)) (length (now (out .entry))))
         (now (out .entry)) r (now (out .exit)) ⌝ }
 {
-    let c = clock(m, t, out);
+    let c = clock(m, t, write_key, out);
     modem_call(c)
 }
 
-// A message comes; `digest` is 1 where its digest holds and 0 where not, and any other is out of the limits.
+// A message comes; its digest is asked under `read_key`, and what is sent has its digests under `write_key`.
 #[no_mangle]
 pub extern "C" fn curlewreel_modem_receive(
     m: Modem,
     message: &[u8],
-    digest: u8,
+    read_key: &[u8],
+    write_key: &[u8],
     out: &mut [u8],
 ) -> ModemCall
-    ensures { λ r. ⌜ ModemReceives m (now (message .entry)) digest (now (out .entry)) r (now (out .exit)) ⌝ }
+    ensures { λ r. ⌜ ModemGives (receiveOf m (now (message .entry)) (now («read_key» .entry)) (now («write_key» .entry)) (length (now (out .entry))))
+        (now (out .entry)) r (now (out .exit)) ⌝ }
 {
-    if DIGEST_MAX < digest {
-        return ModemCall {
-            number: OUT_OF_LIMITS,
-            count: 0,
-            modem: m,
-        };
-    }
-    let c = receive(m, message, digest == DIGEST_YES, out);
+    let c = receive(m, message, read_key, write_key, out);
     modem_call(c)
 }
 
@@ -99,7 +96,7 @@ pub extern "C" fn curlewreel_modem_seal(
     frame_sealed(c)
 }
 
-// The held key with a frame's number; where there is none, what the SAID's machine sends goes to `out`.
+// The held key with a frame's number; where there is none, what the SAID's machine sends goes to `out`, with its digest under `write_key`.
 #[no_mangle]
 pub extern "C" fn curlewreel_modem_open(
     m: Modem,
@@ -107,11 +104,12 @@ pub extern "C" fn curlewreel_modem_open(
     address: u64,
     said: u16,
     number: u8,
+    write_key: &[u8],
     tek: &mut [u8],
     vector: &mut [u8],
     out: &mut [u8],
 ) -> ModemOpening
-    ensures { λ r. ⌜ ModemOpens (openOf m direction address said (record { 0 = number }) (length (now (tek .entry))) (length (now (vector .entry))) (length (now (out .entry))))
+    ensures { λ r. ⌜ ModemOpens (openOf m direction address said (record { 0 = number }) (now («write_key» .entry)) (length (now (tek .entry))) (length (now (vector .entry))) (length (now (out .entry))))
         (now (tek .entry)) (now (vector .entry)) (now (out .entry)) r (now (tek .exit)) (now (vector .exit)) (now (out .exit)) ⌝ }
 {
     let c = open(
@@ -120,6 +118,7 @@ pub extern "C" fn curlewreel_modem_open(
         address,
         said,
         TekNumber(number),
+        write_key,
         tek,
         vector,
         out,

@@ -16,12 +16,17 @@ pub struct Written {
     pub count: usize,
 }
 
-// Writes the message of the fields in the first 109 octets of `fields` at the front of `out`, with zeros for the digest's octets, and
-// answers 0 and how many octets it wrote. `auth_key` is the AUTH-Key's octets, which an Authorization Reply carries. Refused with 1
-// or 2, and then nothing is written.
+// Writes the message of the fields in the first 109 octets of `fields` at the front of `out`, with the digest that `write_key` gives where its code
+// carries one, and answers 0 and how many octets it wrote. `auth_key` is the AUTH-Key's octets, which an Authorization Reply carries. Refused
+// with 1 or 2, and then nothing is written.
 #[no_mangle]
-pub extern "C" fn curlewreel_write(fields: &[u8], auth_key: &[u8], out: &mut [u8]) -> Written
-    ensures { λ r. ⌜ Writes (writeCallOf (now (fields .entry)) (now («auth_key» .entry)) (length (now (out .entry)))) (now (out .entry)) r (now (out .exit)) ⌝ }
+pub extern "C" fn curlewreel_write(
+    fields: &[u8],
+    auth_key: &[u8],
+    write_key: &[u8],
+    out: &mut [u8],
+) -> Written
+    ensures { λ r. ⌜ Writes (writeCallOf (now (fields .entry)) (now («auth_key» .entry)) (now («write_key» .entry)) (length (now (out .entry)))) (now (out .entry)) r (now (out .exit)) ⌝ }
 {
     let f = fields_from(fields);
     if !fields_fit(f) {
@@ -36,7 +41,7 @@ pub extern "C" fn curlewreel_write(fields: &[u8], auth_key: &[u8], out: &mut [u8
             count: 0,
         };
     }
-    let w = write(f, auth_key, out);
+    let w = write(f, auth_key, write_key, out);
     let answer = w.answer;
     let number = answer_number(answer);
     Written {

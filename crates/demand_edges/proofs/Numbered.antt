@@ -20,10 +20,14 @@ use Rattle.modem_calls.specs.Calls.{clockFits, clockOf}
 use Rattle.modem_limits.specs.Limits.{timerFits, authorizationFits, keyZero, pairHeldFits, longestWait, tekFits, tekZero, slotFits, saidsOfTeks, modemFits}
 use Rattle.modem_calls.specs.Messages.{requestOctets, requestsOctets, outOctets}
 use Rattle.message_rules.specs.Messages.{isNone, different}
+use Rattle.digest_sha1.specs.Words.{f, K, quarter}
+use Rattle.digest_sha1.specs.Sha1.{schedule, padding, octets8, zeros, rounds, roundAt, sha1, finish, allBlocks, blocks, block, compress, added}
+use Rattle.digest_hmac.specs.Hmac.{hmac, usedKey, inner, outer, keyBlock}
+use Rattle.message_digest.specs.Digest.{bare, signedOf}
 use Rattle.demand_edges.specs.Numbered.{Numbered}
 
 pub numbered : Numbered
-unfolding padded allZero zeroPast lifeFits tekTimesFit akTimesFit waitFits waitsFit settingsFit widthOf keyFits follows pairFits two four attrOctets octets requiredOf paramsItems descriptorItems descriptorsItems itemsOfType itemsOfTypes itemsOf message messageOf authIdentifier authCounter authTimer informsOf requestsOf authMoved authStepOf counterAfter identifierAfter tekTimer pairAfter tekSends tekMoved tekStepOf isDue nextIn authorizationTransitions tekTransitions authTimerEvent tekTimerEvent authFired slotFired slotsFired clocked authStepped deliverAuth steppedAt deliverReply withMessage clockFits clockOf timerFits authorizationFits keyZero pairHeldFits longestWait tekFits tekZero slotFits saidsOfTeks modemFits requestOctets requestsOctets outOctets isNone different
+unfolding padded allZero zeroPast lifeFits tekTimesFit akTimesFit waitFits waitsFit settingsFit widthOf keyFits follows pairFits two four attrOctets octets requiredOf paramsItems descriptorItems descriptorsItems itemsOfType itemsOfTypes itemsOf message messageOf authIdentifier authCounter authTimer informsOf requestsOf authMoved authStepOf counterAfter identifierAfter tekTimer pairAfter tekSends tekMoved tekStepOf isDue nextIn authorizationTransitions tekTransitions authTimerEvent tekTimerEvent authFired slotFired slotsFired clocked authStepped deliverAuth steppedAt deliverReply withMessage clockFits clockOf timerFits authorizationFits keyZero pairHeldFits longestWait tekFits tekZero slotFits saidsOfTeks modemFits requestOctets requestsOctets outOctets isNone different signedOf bare hmac usedKey inner outer keyBlock schedule padding octets8 zeros rounds roundAt sha1 finish allBlocks blocks block compress added f K quarter
 numbered =
     record {
       key-request = record { done = refl; counts = refl; written = refl };

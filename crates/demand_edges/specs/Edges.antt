@@ -34,7 +34,8 @@ pub record Edges : Type 0 where
   -- ---- minting, over the calls
   pub minting : (x : Start) (m : List ℕ) → length m ≡ 64 → Minting x m
   -- ---- what the modem receives, over the calls
-  pub received : (m : Modem) (lent : ℕ) → modemFits m ≡ true → length (m .teks) ≡ 4 → 216 ≤ lent → Received m lent
+  pub received : (m : Modem) (read write : List ℕ) (lent : ℕ) → modemFits m ≡ true → length (m .teks) ≡ 4 → length read ≡ 20 → length write ≡ 20 → 216 ≤ lent
+      → Received m read write lent
   -- ---- the Identifier after 255, over the clock call
   pub numbered : Numbered
   -- ---- I.6 through the reader by itself, and with Length 103 and with 107 octets

@@ -30,6 +30,7 @@ use Rattle.modem_frames.specs.Frames as ModemFrames
 use Rattle.modem_steps.specs.declared.state.Modem.{Modem}
 use Rattle.modem_calls.proofs.PairLaws.{established-keeps, reauth-keeps, receive-keeps, clock-keeps}
 use Rattle.modem_frames.proofs.FrameLaws.{Counted, opened-counts}
+use Rattle.message_digest.specs.Digest.{messageKeyFits}
 use Rattle.demand_plant.specs.World.{World, Step, list, clock, established, reauth, up, down, sealDown, sealUp, openUp, openDown, clockAnswers, clockedBy}
 use Rattle.demand_plant.specs.Run.{Did, didOf, after, worldAfter, traceFrom}
 use Rattle.demand_plant.specs.Tally.{countIf, hits, tally, isTaken, isCountedRefused, moreBy}
@@ -105,15 +106,15 @@ open-head n h = go (eqb n 0) (isCountedRefused n) (not-both n)
     go false true apart = (refl, refl)
     go false false apart = (refl, refl)
 
-head-opening : (h : HeadEnd) (xs : List Assoc) (direction address said : ℕ) (number : TekNumber) (tek vector lent : ℕ)
-    → CountedBy (answerNumber (HeadFrames.openOf h xs direction address said number tek vector lent .answer)) (h .taken) (h .refused)
-    (HeadFrames.openOf h xs direction address said number tek vector lent .state .taken) (HeadFrames.openOf h xs direction address said number tek vector lent .state .refused)
+head-opening : (h : HeadEnd) (xs : List Assoc) (direction address said : ℕ) (number : TekNumber) (write : List ℕ) (tek vector lent : ℕ)
+    → CountedBy (answerNumber (HeadFrames.openOf h xs direction address said number write tek vector lent .answer)) (h .taken) (h .refused)
+    (HeadFrames.openOf h xs direction address said number write tek vector lent .state .taken) (HeadFrames.openOf h xs direction address said number write tek vector lent .state .refused)
 unfolding HF.openedWith
-head-opening h xs direction address said number tek vector lent =
-    go (HQ.openAnswer h (firstOf (outOfLimits h) xs) (length xs) (lookupOf (OfSaid said) xs) direction address said number tek vector lent)
+head-opening h xs direction address said number write tek vector lent =
+    go (HQ.openAnswer h (firstOf (outOfLimits h) xs) (length xs) (lookupOf (OfSaid said) xs) direction address said number (messageKeyFits write) tek vector lent)
   where
-    go : (a : Answer) → CountedBy (answerNumber (HF.openedFor a h (lookupOf (OfSaid said) xs) address said number .answer)) (h .taken) (h .refused)
-        (HF.openedFor a h (lookupOf (OfSaid said) xs) address said number .state .taken) (HF.openedFor a h (lookupOf (OfSaid said) xs) address said number .state .refused)
+    go : (a : Answer) → CountedBy (answerNumber (HF.openedFor a h (lookupOf (OfSaid said) xs) address said number write .answer)) (h .taken) (h .refused)
+        (HF.openedFor a h (lookupOf (OfSaid said) xs) address said number write .state .taken) (HF.openedFor a h (lookupOf (OfSaid said) xs) address said number write .state .refused)
     go Done = open-head 0 h
     go (Refused r) = open-head (answerNumber (Refused r)) h
 
@@ -135,27 +136,27 @@ modem-opening m o c = go (eqb n 0) (eqb n 10) (eqb n 13) refl refl refl
 -- ---- every step
 step-counts : (w : World) (s : Step) → Counted4 w (after w s) (didOf w s)
 step-counts w (list address allowed l m) = let p = list-same (w .head) (w .records) address allowed l m in (p .0, p .1, refl, refl)
-step-counts w (clock t m lent) = go (clockAnswers w t m lent)
+step-counts w (clock t m write lent) = go (clockAnswers w t m write lent)
   where
-    go : (b : Bool) → Counted4 w (clockedBy b w t m lent) (didOf w (clock t m lent))
+    go : (b : Bool) → Counted4 w (clockedBy b w t m write lent) (didOf w (clock t m write lent))
     go true =
         let p = clock-same (w .head) (w .records) t m in
-        let q = clock-keeps (w .modem) lent t in
+        let q = clock-keeps (w .modem) lent t write in
         (p .0, p .1, q .taken, q .refused)
     go false = (refl, refl, refl, refl)
 step-counts w (established lent) = let q = established-keeps (w .modem) lent in (refl, refl, q .taken, q .refused)
 step-counts w (reauth lent) = let q = reauth-keeps (w .modem) lent in (refl, refl, q .taken, q .refused)
-step-counts w (up address digest octets key lent) =
-    let p = receive-state (w .head) (w .records) address digest octets key lent (SameTwo (w .head)) (refl, refl) (λ listed. (refl, refl)) in
+step-counts w (up address read write octets auth lent) =
+    let p = receive-state (w .head) (w .records) address read write octets auth lent (SameTwo (w .head)) (refl, refl) (λ listed. (refl, refl)) in
     (p .0, p .1, refl, refl)
-step-counts w (down digest octets lent) = let q = receive-keeps (w .modem) lent octets digest in (refl, refl, q .taken, q .refused)
+step-counts w (down read write octets lent) = let q = receive-keeps (w .modem) lent octets read write in (refl, refl, q .taken, q .refused)
 step-counts w (sealDown address said tek vector) = (refl, refl, refl, refl)
 step-counts w (sealUp said tek vector) = (refl, refl, refl, refl)
-step-counts w (openUp direction address said number tek vector lent) =
-    let p = head-opening (w .head) (w .records) direction address said number tek vector lent in
+step-counts w (openUp direction address said number write tek vector lent) =
+    let p = head-opening (w .head) (w .records) direction address said number write tek vector lent in
     (p .0, p .1, refl, refl)
-step-counts w (openDown direction address said number tek vector lent) =
-    let q = modem-opening (w .modem) (ModemFrames.openOf (w .modem) direction address said number tek vector lent) (opened-counts (w .modem) direction address said number tek vector lent) in
+step-counts w (openDown direction address said number write tek vector lent) =
+    let q = modem-opening (w .modem) (ModemFrames.openOf (w .modem) direction address said number write tek vector lent) (opened-counts (w .modem) direction address said number write tek vector lent) in
     (refl, refl, q .0, q .1)
 
 -- ---- and every list

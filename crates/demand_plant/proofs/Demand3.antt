@@ -20,16 +20,16 @@ use Rattle.demand_plant.proofs.Seconds.{seconds-given}
 -- ---- a list as document 01 tells it counts
 listed-allowed : (D F : ℕ) (sent : List Sent) (earlier : List Did) (w : World) (s : Step) → StepListed D F sent earlier w s → Allowed D earlier w s
 listed-allowed D F sent earlier w (list address allowed l m) t = tt
-listed-allowed D F sent earlier w (clock second m lent) t = tt
+listed-allowed D F sent earlier w (clock second m write lent) t = tt
 listed-allowed D F sent earlier w (established lent) t = tt
 listed-allowed D F sent earlier w (reauth lent) t = tt
-listed-allowed D F sent earlier w (up address digest octets key lent) t = tt
-listed-allowed D F sent earlier w (down digest octets lent) (inl t) = inl (t .0)
-listed-allowed D F sent earlier w (down digest octets lent) (inr t) = inr t
+listed-allowed D F sent earlier w (up address read write octets auth lent) t = tt
+listed-allowed D F sent earlier w (down read write octets lent) (inl t) = inl (t .0)
+listed-allowed D F sent earlier w (down read write octets lent) (inr t) = inr t
 listed-allowed D F sent earlier w (sealDown address said tek vector) t = tt
 listed-allowed D F sent earlier w (sealUp said tek vector) t = tt
-listed-allowed D F sent earlier w (openUp direction address said number tek vector lent) t = tt
-listed-allowed D F sent earlier w (openDown direction address said number tek vector lent) t = tt
+listed-allowed D F sent earlier w (openUp direction address said number write tek vector lent) t = tt
+listed-allowed D F sent earlier w (openDown direction address said number write tek vector lent) t = tt
 
 listed-counts : (D F : ℕ) (ss : List Step) (sent : List Sent) (earlier : List Did) (w : World) → AllStepsListed D F sent earlier w ss → Counts D earlier w ss
 listed-counts D F [] sent earlier w t = tt

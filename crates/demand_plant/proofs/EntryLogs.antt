@@ -28,9 +28,9 @@ use Rattle.headend_state.specs.Entries.{entriesOf, knownOf, saidAt, suiteAt}
 use Rattle.headend_limits.specs.Search.{outOfLimits, ofRequest}
 use Rattle.headend_steps.specs.Listing.{grown}
 use Rattle.headend_answers.specs.Answers.{withKeys, keysAfter, keyAnswer, stateAfter, requestState, requestReaction, reactionOf}
-use Rattle.headend_steps.specs.Receive.{receiveAnswer, reactionTo, calledFor, receiveCalled}
+use Rattle.headend_steps.specs.Receive.{receiveAnswer, reactionTo, calledFor, receiveCalled, keysFit}
 use Rattle.headend_limits.proofs.LimitsLaws.{known-place}
-use Rattle.headend_calls.specs.Calls.{receiveOf}
+use Rattle.headend_calls.specs.Calls.{receiveOf, requestHolds}
 use Rattle.headend_calls.specs.Minting.{pairAt, pairsTo, namedPairs}
 use Rattle.demand_plant.proofs.LogLaws.{Log, logTo, logListed, logsTo, logsListed, to-said, to-suite}
 
@@ -144,7 +144,7 @@ module _ (h : HeadEnd) (gs : List Log) (logged : EntriesLogged gs (entriesOf h))
       each own x (inr e) = subst (λ (y : Entry). Logged gs (y .listing)) (sym e) own
 
 -- the state after a message is the state before it, or that with the keys of the sender's entry exchanged
-module _ (h : HeadEnd) (xs : List Assoc) (address : ℕ) (digest : Bool) (s key : List ℕ) (lent : ℕ) (P : HeadEnd → Type 0) (same : P h)
+module _ (h : HeadEnd) (xs : List Assoc) (address : ℕ) (read write s auth : List ℕ) (lent : ℕ) (P : HeadEnd → Type 0) (same : P h)
     (granted : knownOf h address .«is_listed» ≡ true → P (stateAfter h (knownOf h address))) where
   abbrev found : Found
   found = lookupOf (ofRequest (readOf AtHeadEnd s)) xs
@@ -158,20 +158,20 @@ module _ (h : HeadEnd) (xs : List Assoc) (address : ℕ) (digest : Bool) (s key 
       go true true e = same
       go true false e = granted e
 
-  of-reaction : P (reactionTo h found address digest (readOf AtHeadEnd s) .state)
+  of-reaction : P (reactionTo h found address (requestHolds read s) (readOf AtHeadEnd s) .state)
   unfolding reactionOf
   of-reaction = go (eqb (readOf AtHeadEnd s .fields .code) 4) (eqb (readOf AtHeadEnd s .fields .code) 7)
     where
       go : (a b : Bool)
-          → P (cond a (requestReaction h (knownOf h address) (readOf AtHeadEnd s .fields .identifier)) (cond b (record { state = h; answer = keyAnswer (h .clock) (knownOf h address) (found .held) digest (readOf AtHeadEnd s .fields) }) (record { state = h; answer = noFields })) .state)
+          → P (cond a (requestReaction h (knownOf h address) (readOf AtHeadEnd s .fields .identifier)) (cond b (record { state = h; answer = keyAnswer (h .clock) (knownOf h address) (found .held) (requestHolds read s) (readOf AtHeadEnd s .fields) }) (record { state = h; answer = noFields })) .state)
       go true b = of-request
       go false true = same
       go false false = same
 
-  pub receive-state : P (receiveOf h xs address digest s key lent .state)
+  pub receive-state : P (receiveOf h xs address read write s auth lent .state)
   unfolding receiveCalled
-  receive-state = go (receiveAnswer h (firstOf (outOfLimits h) xs) (length xs) found address digest (readOf AtHeadEnd s) (length key) lent)
+  receive-state = go (receiveAnswer h (firstOf (outOfLimits h) xs) (length xs) found address (requestHolds read s) (keysFit read write) (readOf AtHeadEnd s) (length auth) lent)
     where
-      go : (a : Answer) → P (calledFor a h (reactionTo h found address digest (readOf AtHeadEnd s)) key .state)
+      go : (a : Answer) → P (calledFor a h (reactionTo h found address (requestHolds read s) (readOf AtHeadEnd s)) auth write .state)
       go Done = of-reaction
       go (Refused r) = same

@@ -6,8 +6,8 @@ use mathlib.Core.List.{List, List·Memᴰ}
 use Prim.Native.Nat.{ℕ, _+_, _*_, _≤_, _<_}
 use native.Mathlib.Omega.{arith}
 use lib.Dec.{leb}
-use lib.ListN.{getD}
-use borrow.Author.Tests.{leb-true, ltb-true}
+use lib.ListN.{getD, length}
+use borrow.Author.Tests.{leb-true, ltb-true, eqb-true}
 use Rattle.key_traffic.specs.declared.numbers.TekNumber.{TekNumber}
 use Rattle.key_traffic.specs.declared.traffic.TrafficKey.{TrafficKey}
 use Rattle.questions.specs.Refusal.{answerNumber}
@@ -26,6 +26,7 @@ use Rattle.modem_frames.specs.Frames as ModemFrames
 use Rattle.modem_frames.specs.Frames.{ModemOpened, machineOf}
 use Rattle.modem_frames.proofs.FrameLaws as ModemLaws
 use Rattle.modem_steps.specs.Slots.{slotOfSaid}
+use Rattle.message_digest.specs.Digest.{messageKeyFits}
 use Rattle.demand_plant.specs.World.{World, clock, up, down, Frame}
 use Rattle.demand_plant.specs.Run.{Did}
 use Rattle.demand_plant.proofs.LogLaws.{Log}
@@ -35,12 +36,13 @@ use Rattle.demand_plant.proofs.Agreement.{down-same, up-same}
 use Rattle.demand_plant.proofs.HeadOk.{log-at, near, recorded}
 use Rattle.demand_plant.proofs.Inv.{Inv}
 
--- three lengths that are long enough
-long-each : (a b c : ℕ) (t v n : ℕ) → (leb a t && leb b v && leb c n) ≡ true → (a ≤ t) × (b ≤ v) × (c ≤ n)
-long-each a b c t v n e =
-    let e₂ = both (leb a t && leb b v) (leb c n) e in
-    let e₁ = both (leb a t) (leb b v) (e₂ .0) in
-    (leb-true a t (e₁ .0), leb-true b v (e₁ .1), leb-true c n (e₂ .1))
+-- a key of its length, and three lengths that are long enough
+long-each : (a b c : ℕ) (key : List ℕ) (t v n : ℕ) → (messageKeyFits key && leb a t && leb b v && leb c n) ≡ true → (length key ≡ 20) × (a ≤ t) × (b ≤ v) × (c ≤ n)
+long-each a b c key t v n e =
+    let e₂ = both (messageKeyFits key && leb a t && leb b v) (leb c n) e in
+    let e₁ = both (messageKeyFits key && leb a t) (leb b v) (e₂ .0) in
+    let e₀ = both (messageKeyFits key) (leb a t) (e₁ .0) in
+    (eqb-true (length key) 20 (e₀ .0), leb-true a t (e₀ .1), leb-true b v (e₁ .1), leb-true c n (e₂ .1))
 
 -- of two copies, the one that is meant
 of-pair : {D : ℕ} {gs : List Log} (said suite : ℕ) (older newer k : TrafficKey) → (k ≡ older) ⊎ (k ≡ newer) → Copied D gs said suite older → Copied D gs said suite newer → Copied D gs said suite k
@@ -48,15 +50,15 @@ of-pair {D} {gs} said suite older newer k (inl e) p q = subst (Copied D gs said 
 of-pair {D} {gs} said suite older newer k (inr e) p q = subst (Copied D gs said suite) (sym e) q
 
 module _ {D half own : ℕ} (F : ℕ) (bound : D + F ≤ 14 * half) {w : World} {tr : List Did} {gs : List Log} (v : Inv D half own w tr gs)
-    (a : Did) (earlier : List·Memᴰ a tr) (f : Frame) (sealed : List·Memᴰ f (a .given .sealed)) (direction address said : ℕ) (number : TekNumber) (tek vector lent : ℕ) where
+    (a : Did) (earlier : List·Memᴰ a tr) (f : Frame) (sealed : List·Memᴰ f (a .given .sealed)) (direction address said : ℕ) (number : TekNumber) (write : List ℕ) (tek vector lent : ℕ) where
   abbrev ok : FrameOk D half own gs (a .clock) f
   ok = v .seals a earlier f sealed
 
   -- ---- at the modem
   module _ (down : f .direction ≡ 1) (dir : direction ≡ f .direction) (to : address ≡ f .address) (of : said ≡ f .said) (num : number ≡ f .number)
-      (long : (leb 16 tek && leb 16 vector && leb 216 lent) ≡ true) (in-time : w .head .clock ≤ a .clock + F) where
+      (long : (messageKeyFits write && leb 16 tek && leb 16 vector && leb 216 lent) ≡ true) (in-time : w .head .clock ≤ a .clock + F) where
     abbrev m-open : ℕ → ModemOpened
-    m-open d = ModemFrames.openOf (w .modem) d address said number tek vector lent
+    m-open d = ModemFrames.openOf (w .modem) d address said number write tek vector lent
 
     by-modem : ModemLaws.OpenCases (w .modem) address said number (m-open 1)
         → (answerNumber (m-open 1 .answer) ≡ 13) ⊎ ((answerNumber (m-open 1 .answer) ≡ 10) ⊎ ((answerNumber (m-open 1 .answer) ≡ 0) × (m-open 1 .out ≡ f .out)))
@@ -72,20 +74,20 @@ module _ {D half own : ℕ} (F : ℕ) (bound : D + F ≤ 14 * half) {w : World} 
 
     pub modem-agrees : (answerNumber (m-open direction .answer) ≡ 13) ⊎ ((answerNumber (m-open direction .answer) ≡ 10) ⊎ ((answerNumber (m-open direction .answer) ≡ 0) × (m-open direction .out ≡ f .out)))
     modem-agrees =
-        let l = long-each 16 16 216 tek vector lent long in
+        let l = long-each 16 16 216 write tek vector lent long in
         let fits : address < 281474976710656 = ltb-true address 281474976710656 (subst (λ (x : ℕ). addressFits x ≡ true) (sym to) (ok .address-small)) in
         let small : said ≤ 16383 = omega (arith, of, ok .said-small) in
         let range : tekInRange number ≡ true = subst (λ (x : TekNumber). tekInRange x ≡ true) (sym num) (ok .number-small) in
         subst (λ (d : ℕ). (answerNumber (m-open d .answer) ≡ 13) ⊎ ((answerNumber (m-open d .answer) ≡ 10) ⊎ ((answerNumber (m-open d .answer) ≡ 0) × (m-open d .out ≡ f .out)))) (sym (dir ∙ down))
-        (by-modem (ModemLaws.open-cases (w .modem) address said number tek vector lent (v .fits) fits small range (l .0) (l .1) (l .2)))
+        (by-modem (ModemLaws.open-cases (w .modem) address said number write tek vector lent (v .fits) fits small range (l .0) (l .1) (l .2) (l .3)))
 
   -- ---- at the head-end
   module _ (up : f .direction ≡ 0) (dir : direction ≡ f .direction) (from : address ≡ f .address) (of : said ≡ f .said) (num : number ≡ f .number)
-      (long : (leb 16 tek && leb 16 vector && leb 40 lent) ≡ true) (in-time : w .head .clock ≤ a .clock + F) where
+      (long : (messageKeyFits write && leb 16 tek && leb 16 vector && leb 40 lent) ≡ true) (in-time : w .head .clock ≤ a .clock + F) where
     abbrev h-open : ℕ → HeadOpened
-    h-open d = HeadFrames.openOf (w .head) (w .records) d address said number tek vector lent
+    h-open d = HeadFrames.openOf (w .head) (w .records) d address said number write tek vector lent
 
-    by-head : HeadLaws.OpenCases (w .head) (w .records) address said number tek vector lent
+    by-head : HeadLaws.OpenCases (w .head) (w .records) address said number write tek vector lent
         → (answerNumber (h-open 0 .answer) ≡ 13) ⊎ ((answerNumber (h-open 0 .answer) ≡ 10) ⊎ ((answerNumber (h-open 0 .answer) ≡ 0) × (h-open 0 .out ≡ f .out)))
     by-head (inl ten) = inr (inl ten)
     by-head (inr (inl thirteen)) = inl thirteen
@@ -112,9 +114,9 @@ module _ {D half own : ℕ} (F : ℕ) (bound : D + F ≤ 14 * half) {w : World} 
 
     pub head-agrees : (answerNumber (h-open direction .answer) ≡ 13) ⊎ ((answerNumber (h-open direction .answer) ≡ 10) ⊎ ((answerNumber (h-open direction .answer) ≡ 0) × (h-open direction .out ≡ f .out)))
     head-agrees =
-        let l = long-each 16 16 40 tek vector lent long in
+        let l = long-each 16 16 40 write tek vector lent long in
         let fits : addressFits address ≡ true = subst (λ (x : ℕ). addressFits x ≡ true) (sym from) (ok .address-small) in
         let small : said ≤ 16383 = omega (arith, of, ok .said-small) in
         let range : tekInRange number ≡ true = subst (λ (x : TekNumber). tekInRange x ≡ true) (sym num) (ok .number-small) in
         subst (λ (d : ℕ). (answerNumber (h-open d .answer) ≡ 13) ⊎ ((answerNumber (h-open d .answer) ≡ 10) ⊎ ((answerNumber (h-open d .answer) ≡ 0) × (h-open d .out ≡ f .out)))) (sym (dir ∙ up))
-        (by-head (HeadLaws.open-cases (w .head) (w .records) address said number tek vector lent (v .head .within) (recorded (v .head)) fits small range (l .0) (l .1) (l .2)))
+        (by-head (HeadLaws.open-cases (w .head) (w .records) address said number write tek vector lent (v .head .within) (recorded (v .head)) fits small range (l .0) (l .1) (l .2) (l .3)))

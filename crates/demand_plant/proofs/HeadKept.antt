@@ -60,52 +60,52 @@ module _ (w : World) where
         (ap (λ (a : Answer). Head.recordsFor a (storedAt (h .used) (halfIn h) (h .clock) m l (l .count) xs) xs) e))
 
   -- ---- the clock
-  module _ (t : ℕ) (m : List ℕ) (lent : ℕ) where
-    head-done : clockAnswers w t m lent ≡ true → Head.clockOf (w .head) (w .records) t m .answer ≡ Done
+  module _ (t : ℕ) (m write : List ℕ) (lent : ℕ) where
+    head-done : clockAnswers w t m write lent ≡ true → Head.clockOf (w .head) (w .records) t m .answer ≡ Done
     head-done e =
         is-done (Head.clockOf (w .head) (w .records) t m .answer)
-        (both (isDone (Head.clockOf (w .head) (w .records) t m .answer)) (isDone (Mdm.clockOf (w .modem) t lent .called .answer)) e .0)
+        (both (isDone (Head.clockOf (w .head) (w .records) t m .answer)) (isDone (Mdm.clockOf (w .modem) t write lent .called .answer)) e .0)
 
     -- where both ends accept it the clock is its second
-    pub clock-second : clockAnswers w t m lent ≡ true → clockedBy true w t m lent .head .clock ≡ t
+    pub clock-second : clockAnswers w t m write lent ≡ true → clockedBy true w t m write lent .head .clock ≡ t
     clock-second e = ap (λ (g : HeadEnd). g .clock) (clock-state (w .head) (w .records) t m (head-done e))
 
-    clock-on : (b : Bool) → clockAnswers w t m lent ≡ b → w .head .clock ≤ clockedBy b w t m lent .head .clock
+    clock-on : (b : Bool) → clockAnswers w t m write lent ≡ b → w .head .clock ≤ clockedBy b w t m write lent .head .clock
     clock-on true e = omega (arith, clock-second e, clock-forward (w .head) (w .records) t m (head-done e))
     clock-on false e = omega arith
 
-    clock-keeps : (b : Bool) → clockAnswers w t m lent ≡ b → clockedBy b w t m lent .head .clock ≡ w .head .clock → Keeps w (clockedBy b w t m lent)
+    clock-keeps : (b : Bool) → clockAnswers w t m write lent ≡ b → clockedBy b w t m write lent .head .clock ≡ w .head .clock → Keeps w (clockedBy b w t m write lent)
     clock-keeps true e still =
-        keeps-all w (clockedBy true w t m lent) (ap (λ (g : HeadEnd). g .used) (clock-state (w .head) (w .records) t m (head-done e)))
+        keeps-all w (clockedBy true w t m write lent) (ap (λ (g : HeadEnd). g .used) (clock-state (w .head) (w .records) t m (head-done e)))
         (clock-still (w .head) (w .records) t m (head-done e) (sym (clock-second e) ∙ still))
     clock-keeps false e still = keeps-all w w refl refl
 
 -- ---- each step
 step-forward : (s : Step) (w : World) → w .head .clock ≤ after w s .head .clock
 step-forward (list address allowed l m) w = omega (arith, list-clock w address allowed l m)
-step-forward (clock t m lent) w = clock-on w t m lent (clockAnswers w t m lent) refl
+step-forward (clock t m write lent) w = clock-on w t m write lent (clockAnswers w t m write lent) refl
 step-forward (established lent) w = omega arith
 step-forward (reauth lent) w = omega arith
-step-forward (up address digest octets key lent) w = omega (arith, receive-base (w .head) (w .records) address digest octets key lent .clock)
-step-forward (down digest octets lent) w = omega arith
+step-forward (up address read write octets auth lent) w = omega (arith, receive-base (w .head) (w .records) address read write octets auth lent .clock)
+step-forward (down read write octets lent) w = omega arith
 step-forward (sealDown address said tek vector) w = omega arith
 step-forward (sealUp said tek vector) w = omega arith
-step-forward (openUp direction address said number tek vector lent) w = omega (arith, open-same (w .head) (w .records) direction address said number tek vector lent .clock)
-step-forward (openDown direction address said number tek vector lent) w = omega arith
+step-forward (openUp direction address said number write tek vector lent) w = omega (arith, open-same (w .head) (w .records) direction address said number write tek vector lent .clock)
+step-forward (openDown direction address said number write tek vector lent) w = omega arith
 
 step-keeps : (s : Step) (w : World) → after w s .head .clock ≡ w .head .clock → Keeps w (after w s)
 step-keeps (list address allowed l m) w still = list-keeps w address allowed l m
-step-keeps (clock t m lent) w still = clock-keeps w t m lent (clockAnswers w t m lent) refl still
+step-keeps (clock t m write lent) w still = clock-keeps w t m write lent (clockAnswers w t m write lent) refl still
 step-keeps (established lent) w still = keeps-all w (after w (established lent)) refl refl
 step-keeps (reauth lent) w still = keeps-all w (after w (reauth lent)) refl refl
-step-keeps (up address digest octets key lent) w still =
-    keeps-all w (after w (up address digest octets key lent)) (receive-base (w .head) (w .records) address digest octets key lent .used) refl
-step-keeps (down digest octets lent) w still = keeps-all w (after w (down digest octets lent)) refl refl
+step-keeps (up address read write octets auth lent) w still =
+    keeps-all w (after w (up address read write octets auth lent)) (receive-base (w .head) (w .records) address read write octets auth lent .used) refl
+step-keeps (down read write octets lent) w still = keeps-all w (after w (down read write octets lent)) refl refl
 step-keeps (sealDown address said tek vector) w still = keeps-all w w refl refl
 step-keeps (sealUp said tek vector) w still = keeps-all w w refl refl
-step-keeps (openUp direction address said number tek vector lent) w still =
-    keeps-all w (after w (openUp direction address said number tek vector lent)) (open-same (w .head) (w .records) direction address said number tek vector lent .used) refl
-step-keeps (openDown direction address said number tek vector lent) w still = keeps-all w (after w (openDown direction address said number tek vector lent)) refl refl
+step-keeps (openUp direction address said number write tek vector lent) w still =
+    keeps-all w (after w (openUp direction address said number write tek vector lent)) (open-same (w .head) (w .records) direction address said number write tek vector lent .used) refl
+step-keeps (openDown direction address said number write tek vector lent) w still = keeps-all w (after w (openDown direction address said number write tek vector lent)) refl refl
 
 -- ---- a list of them
 run-forward : (ss : List Step) (w : World) → w .head .clock ≤ worldAfter w ss .head .clock

@@ -84,32 +84,32 @@ module _ {D half own : ℕ} {w : World} {tr : List Did} {gs : List Log} (v : Inv
         (nothing-put gs (didOf w listing) refl) (nothing-sealed D half own gs (didOf w listing) refl) (omega (arith, same)))
 
   -- ---- the clock, one second for both ends
-  module _ (t : ℕ) (m : List ℕ) (lent : ℕ) where
-    pub clock-next : Next D half own w tr gs (clock t m lent)
-    clock-next = go (clockAnswers w t m lent) refl
+  module _ (t : ℕ) (m write : List ℕ) (lent : ℕ) where
+    pub clock-next : Next D half own w tr gs (clock t m write lent)
+    clock-next = go (clockAnswers w t m write lent) refl
       where
-        go : (b : Bool) → clockAnswers w t m lent ≡ b → Next D half own w tr gs (clock t m lent)
+        go : (b : Bool) → clockAnswers w t m write lent ≡ b → Next D half own w tr gs (clock t m write lent)
         go true e =
             let hs = logsTo half t m 0 gs in
             let grows = grows-clocked half t m 0 gs in
-            let d = both (isDone (Head.clockOf (w .head) (w .records) t m .answer)) (isDone (Mdm.clockOf (w .modem) t lent .called .answer)) e in
+            let d = both (isDone (Head.clockOf (w .head) (w .records) t m .answer)) (isDone (Mdm.clockOf (w .modem) t write lent .called .answer)) e in
             let done = is-done (Head.clockOf (w .head) (w .records) t m .answer) (d .0) in
-            let rest = clock-done (w .modem) lent t (is-done (Mdm.clockOf (w .modem) t lent .called .answer) (d .1)) in
+            let rest = clock-done (w .modem) lent t write (is-done (Mdm.clockOf (w .modem) t write lent .called .answer) (d .1)) in
             let at : Head.clockOf (w .head) (w .records) t m .state .clock ≡ t = ap (λ (h : HeadEnd). h .clock) (clock-state (w .head) (w .records) t m done) in
-            next-to v (clock t m lent) hs grows (sym (ap (λ (b : Bool). logsBy half gs (clockIf b t m)) e)) (clockedBy true w t m lent) (ap (λ (b : Bool). clockedBy b w t m lent) e)
-            (clock-ok (v .head) t m done) (clock-fits (w .modem) lent t (v .fits)) (rest .address ∙ v .own-is) (rest .clock ∙ sym at)
-            (clock-pairs (PairCopied D hs) (w .modem) lent (pairs-grow D gs hs grows (w .modem) (v .pairs)) t)
-            (nothing-put hs (didOf w (clock t m lent)) refl) (nothing-sealed D half own hs (didOf w (clock t m lent)) refl)
+            next-to v (clock t m write lent) hs grows (sym (ap (λ (b : Bool). logsBy half gs (clockIf b t m)) e)) (clockedBy true w t m write lent) (ap (λ (b : Bool). clockedBy b w t m write lent) e)
+            (clock-ok (v .head) t m done) (clock-fits (w .modem) lent t write (v .fits)) (rest .address ∙ v .own-is) (rest .clock ∙ sym at)
+            (clock-pairs (PairCopied D hs) (w .modem) lent (pairs-grow D gs hs grows (w .modem) (v .pairs)) t write)
+            (nothing-put hs (didOf w (clock t m write lent)) refl) (nothing-sealed D half own hs (didOf w (clock t m write lent)) refl)
             (omega (arith, at, clock-forward (w .head) (w .records) t m done))
         go false e =
-            next-to v (clock t m lent) gs (grows-same gs) (sym (ap (λ (b : Bool). logsBy half gs (clockIf b t m)) e)) w (ap (λ (b : Bool). clockedBy b w t m lent) e)
+            next-to v (clock t m write lent) gs (grows-same gs) (sym (ap (λ (b : Bool). logsBy half gs (clockIf b t m)) e)) w (ap (λ (b : Bool). clockedBy b w t m write lent) e)
             (v .head) (v .fits) (v .own-is) (v .clocks) (v .pairs)
-            (nothing-put gs (didOf w (clock t m lent)) refl) (nothing-sealed D half own gs (didOf w (clock t m lent)) refl) (omega arith)
+            (nothing-put gs (didOf w (clock t m write lent)) refl) (nothing-sealed D half own gs (didOf w (clock t m write lent)) refl) (omega arith)
 
   -- ---- a message to the head-end: a Key Reply shows the last two keys made of its SAID
-  module _ (address : ℕ) (digest : Bool) (octets key : List ℕ) (lent : ℕ) where
+  module _ (address : ℕ) (read write octets auth : List ℕ) (lent : ℕ) where
     abbrev put : List ℕ
-    put = Head.receiveOctets (w .head) (w .records) address digest octets key lent
+    put = Head.receiveOctets (w .head) (w .records) address read write octets auth lent
 
     abbrev asked : Fields
     asked = request octets
@@ -117,9 +117,9 @@ module _ {D half own : ℕ} {w : World} {tr : List Did} {gs : List Log} (v : Inv
     reply-sent : codeOf put ≡ 8 → ReplySent gs (w .head .clock) (takenOf put .fields)
     reply-sent code =
         let a = getD (w .records) (placeOf (w .records) octets) none in
-        let k = up-reply (w .head) (w .records) address digest octets key lent code in
+        let k = up-reply (w .head) (w .records) address read write octets auth lent code in
         let shape = shaped-at (v .head) (placeOf (w .records) octets) (k .inside) in
-        let back = reply-read (w .head) (w .records) address digest octets key lent a k shape in
+        let back = reply-read (w .head) (w .records) address read write octets auth lent a k shape in
         let r = log-at (v .head) (placeOf (w .records) octets) (k .inside) in
         let line = r .log .line in
         let good = v .head .good (r .log) (r .there) in
@@ -132,12 +132,12 @@ module _ {D half own : ℕ} {w : World} {tr : List Did} {gs : List Log} (v : Inv
           sent-at gs (r .log) (r .there) (asked .said) (w .head .clock) said (line .newer) (good .newer-in) (omega (arith, limits .ahead, limits .paced)),
         )
 
-    pub up-next : Next D half own w tr gs (up address digest octets key lent)
+    pub up-next : Next D half own w tr gs (up address read write octets auth lent)
     up-next =
-        let same = receive-base (w .head) (w .records) address digest octets key lent in
-        next-by v (up address digest octets key lent) gs (grows-same gs) refl (receive-ok (v .head) address digest octets key lent) (v .fits) (v .own-is) (v .clocks ∙ sym (same .clock)) (v .pairs)
+        let same = receive-base (w .head) (w .records) address read write octets auth lent in
+        next-by v (up address read write octets auth lent) gs (grows-same gs) refl (receive-ok (v .head) address read write octets auth lent) (v .fits) (v .own-is) (v .clocks ∙ sym (same .clock)) (v .pairs)
         (λ o i code. subst (λ (n : ℕ). ReplySent gs n (takenOf o .fields)) (sym (same .clock)) (one-put (eqb address (w .modem .address)) put o i code reply-sent))
-        (nothing-sealed D half own gs (didOf w (up address digest octets key lent)) refl) (omega (arith, same .clock))
+        (nothing-sealed D half own gs (didOf w (up address read write octets auth lent)) refl) (omega (arith, same .clock))
       where
         one-put : (b : Bool) (bs o : List ℕ) → List·Memᴰ o (oneIf b bs) → codeOf o ≡ 8 → (codeOf bs ≡ 8 → ReplySent gs (w .head .clock) (takenOf bs .fields)) → ReplySent gs (w .head .clock) (takenOf o .fields)
         one-put true [] o i code ok = elim i [ ]
@@ -180,14 +180,14 @@ module _ {D half own : ℕ} {w : World} {tr : List Did} {gs : List Log} (v : Inv
         (nothing-put gs (didOf w (sealDown address said tek vector)) refl) (frames-ok (s .answer) refl) (omega arith)
 
   -- ---- an opening: a TEK Invalid is no Key Reply
-  module _ (direction address said : ℕ) (number : TekNumber) (tek vector lent : ℕ) where
-    pub open-up-next : Next D half own w tr gs (openUp direction address said number tek vector lent)
+  module _ (direction address said : ℕ) (number : TekNumber) (write : List ℕ) (tek vector lent : ℕ) where
+    pub open-up-next : Next D half own w tr gs (openUp direction address said number write tek vector lent)
     open-up-next =
-        let step = openUp direction address said number tek vector lent in
-        let same = open-same (w .head) (w .records) direction address said number tek vector lent in
-        next-by v step gs (grows-same gs) refl (open-ok (v .head) direction address said number tek vector lent) (v .fits) (v .own-is) (v .clocks ∙ sym (same .clock)) (v .pairs)
-        (λ o i code. absurd (no-reply (eqb address (w .modem .address)) (HeadFrames.openOf (w .head) (w .records) direction address said number tek vector lent .invalid) o i code
-        (invalid-not-reply (w .head) (w .records) direction address said number tek vector lent)))
+        let step = openUp direction address said number write tek vector lent in
+        let same = open-same (w .head) (w .records) direction address said number write tek vector lent in
+        next-by v step gs (grows-same gs) refl (open-ok (v .head) direction address said number write tek vector lent) (v .fits) (v .own-is) (v .clocks ∙ sym (same .clock)) (v .pairs)
+        (λ o i code. absurd (no-reply (eqb address (w .modem .address)) (HeadFrames.openOf (w .head) (w .records) direction address said number write tek vector lent .invalid) o i code
+        (invalid-not-reply (w .head) (w .records) direction address said number write tek vector lent)))
         (nothing-sealed D half own gs (didOf w step) refl) (omega (arith, same .clock))
       where
         no-reply : (b : Bool) (bs o : List ℕ) → List·Memᴰ o (oneIf b bs) → codeOf o ≡ 8 → (codeOf bs ≡ 8 → ⊥) → ⊥

@@ -132,15 +132,15 @@ module _ {half : ℕ} {h : HeadEnd} {xs : List Assoc} {gs : List Log} (ok : Head
         }
 
   -- ---- a message, and an opening
-  pub receive-ok : (address : ℕ) (digest : _) (s key : List ℕ) (lent : ℕ) → HeadOk half (receiveOf h xs address digest s key lent .state) xs gs
-  receive-ok address digest s key lent =
-      let p = receive-state h xs address digest s key lent (λ (g : HeadEnd). EntriesLogged gs (entriesOf g) × (length (g .entries) ≡ 16))
+  pub receive-ok : (address : ℕ) (read write s auth : List ℕ) (lent : ℕ) → HeadOk half (receiveOf h xs address read write s auth lent .state) xs gs
+  receive-ok address read write s auth lent =
+      let p = receive-state h xs address read write s auth lent (λ (g : HeadEnd). EntriesLogged gs (entriesOf g) × (length (g .entries) ≡ 16))
       (ok .logged, ok .sixteen)
       (λ listed. (rekeyed-logged h gs (ok .logged) address listed, length-set (h .entries) (knownOf h address .at) _ ∙ ok .sixteen)) in
       record {
-        within = receive-within h xs (ok .within) address digest s key lent;
-        all-near = receive-near h xs address digest s key lent (ok .all-near);
-        shows = receive-shows address digest s key lent (ok .shows);
+        within = receive-within h xs (ok .within) address read write s auth lent;
+        all-near = receive-near h xs address read write s auth lent (ok .all-near);
+        shows = receive-shows address read write s auth lent (ok .shows);
         good = ok .good;
         differ = ok .differ;
         logged = p .0;
@@ -148,10 +148,10 @@ module _ {half : ℕ} {h : HeadEnd} {xs : List Assoc} {gs : List Log} (ok : Head
         sixteen = p .1;
       }
 
-  pub open-ok : (direction address said : ℕ) (number : TekNumber) (tek vector lent : ℕ) → HeadOk half (openOf h xs direction address said number tek vector lent .state) xs gs
-  open-ok direction address said number tek vector lent =
-      let o = openOf h xs direction address said number tek vector lent .state in
-      let same = open-same h xs direction address said number tek vector lent in
+  pub open-ok : (direction address said : ℕ) (number : TekNumber) (write : List ℕ) (tek vector lent : ℕ) → HeadOk half (openOf h xs direction address said number write tek vector lent .state) xs gs
+  open-ok direction address said number write tek vector lent =
+      let o = openOf h xs direction address said number write tek vector lent .state in
+      let same = open-same h xs direction address said number write tek vector lent in
       let base : SameBase h o = record { settings = same .settings; clock = same .clock; used = same .used } in
       record {
         within = same-within h o same xs (ok .within);

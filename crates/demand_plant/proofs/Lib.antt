@@ -22,14 +22,4 @@ pub mod HeadKept
 pub mod Seconds
 pub mod SameSecond
 pub mod Counts
-pub mod RowsComputing
-pub mod RowsRun
-pub mod RowsSetUp
-pub mod RowsWidths
-pub mod RowsLate
-pub mod RowsResent
-pub mod RowsRolled
-pub mod RowsSixteen
-pub mod RowsListed
-pub mod RowsSecond
 pub mod SentRead

@@ -66,8 +66,8 @@ module _ {D half own : ℕ} {w : World} {tr : List Did} {gs : List Log} (v : Inv
       (reauth-pairs (PairCopied D gs) (w .modem) lent (v .pairs)) (nothing-put gs (didOf w (reauth lent)) refl) (nothing-sealed D half own gs (didOf w (reauth lent)) refl) (omega arith)
 
   -- ---- a message: a copy of one that the head-end put out, or refused
-  module _ (digest : Bool) (octets : List ℕ) (lent : ℕ) where
-    from-copy : Copy D tr (w .head .clock) octets → KeyReplyTaken (w .modem) octets digest
+  module _ (read write octets : List ℕ) (lent : ℕ) where
+    from-copy : Copy D tr (w .head .clock) octets → KeyReplyTaken (w .modem) octets read
         → PairCopied D gs (fieldsIn octets .said) (replySlot (w .modem) octets .suite) (pairOf (w .modem .clock) (fieldsIn octets .older) (fieldsIn octets .newer))
     from-copy c k =
         let sent = v .puts (c .sender) (c .sent) octets (c .one) (sym (code-is octets) ∙ k .code) in
@@ -76,17 +76,17 @@ module _ {D half own : ℕ} {w : World} {tr : List Did} {gs : List Log} (v : Inv
           brought D gs (fieldsIn octets .said) (replySlot (w .modem) octets .suite) (w .modem .clock) (c .sender .clock) soon (fieldsIn octets .newer) (sent .1) (k .newer-wide),
         )
 
-    taken-pair : Allowed D tr w (down digest octets lent) → Mdm.receiveOf (w .modem) octets digest lent .called .answer ≡ Done → KeyReplyTaken (w .modem) octets digest
+    taken-pair : Allowed D tr w (down read write octets lent) → Mdm.receiveOf (w .modem) octets read write lent .called .answer ≡ Done → KeyReplyTaken (w .modem) octets read
         → PairCopied D gs (fieldsIn octets .said) (replySlot (w .modem) octets .suite) (pairOf (w .modem .clock) (fieldsIn octets .older) (fieldsIn octets .newer))
     taken-pair (inl c) done k = from-copy c k
     taken-pair (inr refused) done k = absurd (refused (ap answerNumber done))
 
-    pub down-next : Allowed D tr w (down digest octets lent) → Next D half own w tr gs (down digest octets lent)
+    pub down-next : Allowed D tr w (down read write octets lent) → Next D half own w tr gs (down read write octets lent)
     down-next allowed =
-        let rest = receive-keeps (w .modem) lent octets digest in
-        next-by v (down digest octets lent) gs (grows-same gs) refl (v .head) (receive-fits (w .modem) lent octets digest (v .fits)) (rest .address ∙ v .own-is) (rest .clock ∙ v .clocks)
-        (receive-pairs (PairCopied D gs) (w .modem) lent (v .pairs) octets digest (taken-pair allowed))
-        (nothing-put gs (didOf w (down digest octets lent)) refl) (nothing-sealed D half own gs (didOf w (down digest octets lent)) refl) (omega arith)
+        let rest = receive-keeps (w .modem) lent octets read write in
+        next-by v (down read write octets lent) gs (grows-same gs) refl (v .head) (receive-fits (w .modem) lent octets read write (v .fits)) (rest .address ∙ v .own-is) (rest .clock ∙ v .clocks)
+        (receive-pairs (PairCopied D gs) (w .modem) lent (v .pairs) octets read write (taken-pair allowed))
+        (nothing-put gs (didOf w (down read write octets lent)) refl) (nothing-sealed D half own gs (didOf w (down read write octets lent)) refl) (omega arith)
 
   -- ---- a sealing, with a copy that counts
   module _ (own-fits : addressFits own ≡ true) (said tek vector : ℕ) where
@@ -121,9 +121,9 @@ module _ {D half own : ℕ} {w : World} {tr : List Did} {gs : List Log} (v : Inv
         (nothing-put gs (didOf w (sealUp said tek vector)) refl) (frames-ok (s .answer) refl) (omega arith)
 
   -- ---- an opening
-  pub open-down-next : (direction address said : ℕ) (number : TekNumber) (tek vector lent : ℕ) → Next D half own w tr gs (openDown direction address said number tek vector lent)
-  open-down-next direction address said number tek vector lent =
-      let step = openDown direction address said number tek vector lent in
-      let same = open-keeps (w .modem) direction address said number tek vector lent in
-      next-by v step gs (grows-same gs) refl (v .head) (open-fits (w .modem) direction address said number tek vector lent (v .fits)) (same .address ∙ v .own-is) (same .clock ∙ v .clocks)
-      (open-pairs (w .modem) direction address said number tek vector lent (PairCopied D gs) (v .pairs)) (nothing-put gs (didOf w step) refl) (nothing-sealed D half own gs (didOf w step) refl) (omega arith)
+  pub open-down-next : (direction address said : ℕ) (number : TekNumber) (write : List ℕ) (tek vector lent : ℕ) → Next D half own w tr gs (openDown direction address said number write tek vector lent)
+  open-down-next direction address said number write tek vector lent =
+      let step = openDown direction address said number write tek vector lent in
+      let same = open-keeps (w .modem) direction address said number write tek vector lent in
+      next-by v step gs (grows-same gs) refl (v .head) (open-fits (w .modem) direction address said number write tek vector lent (v .fits)) (same .address ∙ v .own-is) (same .clock ∙ v .clocks)
+      (open-pairs (w .modem) direction address said number write tek vector lent (PairCopied D gs) (v .pairs)) (nothing-put gs (didOf w step) refl) (nothing-sealed D half own gs (didOf w step) refl) (omega arith)

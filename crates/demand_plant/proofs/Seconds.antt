@@ -26,22 +26,22 @@ module _ (w : World) (rest : List Accepted) where
   listed l m Done told = (refl, told)
   listed l m (Refused r) told = told
 
-  clocked : (t : ℕ) (m : List ℕ) (lent : ℕ) (b : Bool) → clockAnswers w t m lent ≡ b → TellsAt (clockedBy b w t m lent .head .clock) → SecondsGiven (w .head .clock) (clockIf b t m ++ rest)
-  clocked t m lent true e told = subst TellsAt (clock-second w t m lent e) told
-  clocked t m lent false e told = told
+  clocked : (t : ℕ) (m write : List ℕ) (lent : ℕ) (b : Bool) → clockAnswers w t m write lent ≡ b → TellsAt (clockedBy b w t m write lent .head .clock) → SecondsGiven (w .head .clock) (clockIf b t m ++ rest)
+  clocked t m write lent true e told = subst TellsAt (clock-second w t m write lent e) told
+  clocked t m write lent false e told = told
 
   -- a step tells a listing's second rightly, and leaves the clock as it tells
   step-listed : (s : Step) → TellsAt (after w s .head .clock) → SecondsGiven (w .head .clock) (acceptedIn w s ++ rest)
   step-listed (list address allowed l m) told = listed l m (Head.listOf (w .head) (w .records) address allowed l m .answer) (subst TellsAt (list-clock w address allowed l m) told)
-  step-listed (clock t m lent) told = clocked t m lent (clockAnswers w t m lent) refl told
+  step-listed (clock t m write lent) told = clocked t m write lent (clockAnswers w t m write lent) refl told
   step-listed (established lent) told = told
   step-listed (reauth lent) told = told
-  step-listed (up address digest octets key lent) told = subst TellsAt (receive-base (w .head) (w .records) address digest octets key lent .clock) told
-  step-listed (down digest octets lent) told = told
+  step-listed (up address read write octets auth lent) told = subst TellsAt (receive-base (w .head) (w .records) address read write octets auth lent .clock) told
+  step-listed (down read write octets lent) told = told
   step-listed (sealDown address said tek vector) told = told
   step-listed (sealUp said tek vector) told = told
-  step-listed (openUp direction address said number tek vector lent) told = subst TellsAt (open-same (w .head) (w .records) direction address said number tek vector lent .clock) told
-  step-listed (openDown direction address said number tek vector lent) told = told
+  step-listed (openUp direction address said number write tek vector lent) told = subst TellsAt (open-same (w .head) (w .records) direction address said number write tek vector lent .clock) told
+  step-listed (openDown direction address said number write tek vector lent) told = told
 
 -- from any world, and so from the fresh pair
 seconds-from : (ss : List Step) (w : World) → SecondsGiven (w .head .clock) (acceptedBy w ss)

@@ -63,17 +63,17 @@ granted-alike h g same address listed =
 
 module _ {D half own : ℕ} {w x : World} {tr us : List Did} {gs hs : List Log} (v : Inv D half own w tr gs) (u : Inv D half own x us hs) (like : Like w x) where
   -- ---- a step that is struck out
-  pub up-like : (address : ℕ) (digest : Bool) (octets key : List ℕ) (lent : ℕ) → Like (after w (up address digest octets key lent)) x
-  up-like address digest octets key lent =
+  pub up-like : (address : ℕ) (read write octets auth : List ℕ) (lent : ℕ) → Like (after w (up address read write octets auth lent)) x
+  up-like address read write octets auth lent =
       record {
-        heads = receive-state (w .head) (w .records) address digest octets key lent (λ (h : HeadEnd). Alike h (x .head)) (like .heads) (granted-alike (w .head) (x .head) (like .heads) address);
+        heads = receive-state (w .head) (w .records) address read write octets auth lent (λ (h : HeadEnd). Alike h (x .head)) (like .heads) (granted-alike (w .head) (x .head) (like .heads) address);
         records = like .records;
         clocks = like .clocks;
       }
 
-  pub open-up-like : (direction address said : ℕ) (number : _) (tek vector lent : ℕ) → Like (after w (openUp direction address said number tek vector lent)) x
-  open-up-like direction address said number tek vector lent =
-      let same = open-same (w .head) (w .records) direction address said number tek vector lent in
+  pub open-up-like : (direction address said : ℕ) (number : _) (write : List ℕ) (tek vector lent : ℕ) → Like (after w (openUp direction address said number write tek vector lent)) x
+  open-up-like direction address said number write tek vector lent =
+      let same = open-same (w .head) (w .records) direction address said number write tek vector lent in
       record {
         heads = record {
           settings = same .settings ∙ like .heads .settings;
@@ -103,31 +103,31 @@ module _ {D half own : ℕ} {w x : World} {tr us : List Did} {gs hs : List Log} 
         }
 
   -- ---- the clock
-  module _ (t : ℕ) (m : List ℕ) (lent : ℕ) where
-    same-answers : clockAnswers w t m lent ≡ clockAnswers x t m lent
+  module _ (t : ℕ) (m write : List ℕ) (lent : ℕ) where
+    same-answers : clockAnswers w t m write lent ≡ clockAnswers x t m write lent
     same-answers =
-        ap (λ (a : Answer). isDone a && isDone (Mdm.clockOf (w .modem) t lent .called .answer))
+        ap (λ (a : Answer). isDone a && isDone (Mdm.clockOf (w .modem) t write lent .called .answer))
         (clock-answers (w .head) (x .head) (like .heads) (v .head .within .fits) (u .head .within .fits) (w .records) t m ∙ ap (λ (ys : List Assoc). Head.clockOf (x .head) ys t m .answer) (like .records))
-        ∙ ap (λ (a : Answer). isDone (Head.clockOf (x .head) (x .records) t m .answer) && isDone a) (clock-depends (w .modem) (x .modem) t lent (v .fits) (u .fits) (like .clocks))
+        ∙ ap (λ (a : Answer). isDone (Head.clockOf (x .head) (x .records) t m .answer) && isDone a) (clock-depends (w .modem) (x .modem) t write lent (v .fits) (u .fits) (like .clocks))
 
-    pub clock-accepts : acceptedIn w (clock t m lent) ≡ acceptedIn x (clock t m lent)
+    pub clock-accepts : acceptedIn w (clock t m write lent) ≡ acceptedIn x (clock t m write lent)
     clock-accepts = ap (λ (b : Bool). clockIf b t m) same-answers
 
-    moved : (b : Bool) → clockAnswers w t m lent ≡ b → Like (clockedBy b w t m lent) (clockedBy b x t m lent)
+    moved : (b : Bool) → clockAnswers w t m write lent ≡ b → Like (clockedBy b w t m write lent) (clockedBy b x t m write lent)
     moved false e = like
     moved true e =
-        let d = both (isDone (Head.clockOf (w .head) (w .records) t m .answer)) (isDone (Mdm.clockOf (w .modem) t lent .called .answer)) e in
-        let d′ = both (isDone (Head.clockOf (x .head) (x .records) t m .answer)) (isDone (Mdm.clockOf (x .modem) t lent .called .answer)) (sym same-answers ∙ e) in
+        let d = both (isDone (Head.clockOf (w .head) (w .records) t m .answer)) (isDone (Mdm.clockOf (w .modem) t write lent .called .answer)) e in
+        let d′ = both (isDone (Head.clockOf (x .head) (x .records) t m .answer)) (isDone (Mdm.clockOf (x .modem) t write lent .called .answer)) (sym same-answers ∙ e) in
         record {
           heads = subst (λ (ys : List Assoc). Alike (Head.clockOf (w .head) (w .records) t m .state) (Head.clockOf (x .head) ys t m .state)) (like .records)
               (clock-alike (w .head) (x .head) (like .heads) (v .head .within .fits) (u .head .within .fits) (w .records) t m);
           records = clock-records (w .head) (x .head) (like .heads) (v .head .within .fits) (u .head .within .fits) (w .records) t m ∙ ap (λ (ys : List Assoc). Head.clockRecords (x .head) ys t m) (like .records);
-          clocks = clock-done (w .modem) lent t (is-done (Mdm.clockOf (w .modem) t lent .called .answer) (d .1)) .clock
-              ∙ sym (clock-done (x .modem) lent t (is-done (Mdm.clockOf (x .modem) t lent .called .answer) (d′ .1)) .clock);
+          clocks = clock-done (w .modem) lent t write (is-done (Mdm.clockOf (w .modem) t write lent .called .answer) (d .1)) .clock
+              ∙ sym (clock-done (x .modem) lent t write (is-done (Mdm.clockOf (x .modem) t write lent .called .answer) (d′ .1)) .clock);
         }
 
-    pub clock-like : Like (after w (clock t m lent)) (after x (clock t m lent))
-    clock-like = subst (λ (b : Bool). Like (clockedBy (clockAnswers w t m lent) w t m lent) (clockedBy b x t m lent)) same-answers (moved (clockAnswers w t m lent) refl)
+    pub clock-like : Like (after w (clock t m write lent)) (after x (clock t m write lent))
+    clock-like = subst (λ (b : Bool). Like (clockedBy (clockAnswers w t m write lent) w t m write lent) (clockedBy b x t m write lent)) same-answers (moved (clockAnswers w t m write lent) refl)
 
 -- ---- a whole list
 module _ {D half own : ℕ} (own-fits : addressFits own ≡ true) where
@@ -138,25 +138,25 @@ module _ {D half own : ℕ} (own-fits : addressFits own ≡ true) where
       ap (λ (a : List Accepted). a ++ acceptedBy (after w (list address allowed l m)) ss) (list-accepts v u like address allowed l m)
       ∙ ap (λ (a : List Accepted). acceptedIn x (list address allowed l m) ++ a)
       (made-alike ss (next own-fits v (list address allowed l m) (c .0) .inv) (next own-fits u (list address allowed l m) tt .inv) (list-like v u like address allowed l m) (c .1))
-  made-alike (clock t m lent ∷ ss) {w} {x} v u like c =
-      ap (λ (a : List Accepted). a ++ acceptedBy (after w (clock t m lent)) ss) (clock-accepts v u like t m lent)
-      ∙ ap (λ (a : List Accepted). acceptedIn x (clock t m lent) ++ a)
-      (made-alike ss (next own-fits v (clock t m lent) (c .0) .inv) (next own-fits u (clock t m lent) tt .inv) (clock-like v u like t m lent) (c .1))
+  made-alike (clock t m write lent ∷ ss) {w} {x} v u like c =
+      ap (λ (a : List Accepted). a ++ acceptedBy (after w (clock t m write lent)) ss) (clock-accepts v u like t m write lent)
+      ∙ ap (λ (a : List Accepted). acceptedIn x (clock t m write lent) ++ a)
+      (made-alike ss (next own-fits v (clock t m write lent) (c .0) .inv) (next own-fits u (clock t m write lent) tt .inv) (clock-like v u like t m write lent) (c .1))
   made-alike (established lent ∷ ss) {w} {x} v u like c =
       made-alike ss (next own-fits v (established lent) (c .0) .inv) u (record { heads = like .heads; records = like .records; clocks = established-keeps (w .modem) lent .clock ∙ like .clocks }) (c .1)
   made-alike (reauth lent ∷ ss) {w} {x} v u like c =
       made-alike ss (next own-fits v (reauth lent) (c .0) .inv) u (record { heads = like .heads; records = like .records; clocks = reauth-keeps (w .modem) lent .clock ∙ like .clocks }) (c .1)
-  made-alike (up address digest octets key lent ∷ ss) v u like c =
-      made-alike ss (next own-fits v (up address digest octets key lent) (c .0) .inv) u (up-like v u like address digest octets key lent) (c .1)
-  made-alike (down digest octets lent ∷ ss) {w} {x} v u like c =
-      made-alike ss (next own-fits v (down digest octets lent) (c .0) .inv) u (record { heads = like .heads; records = like .records; clocks = receive-keeps (w .modem) lent octets digest .clock ∙ like .clocks }) (c .1)
+  made-alike (up address read write octets auth lent ∷ ss) v u like c =
+      made-alike ss (next own-fits v (up address read write octets auth lent) (c .0) .inv) u (up-like v u like address read write octets auth lent) (c .1)
+  made-alike (down read write octets lent ∷ ss) {w} {x} v u like c =
+      made-alike ss (next own-fits v (down read write octets lent) (c .0) .inv) u (record { heads = like .heads; records = like .records; clocks = receive-keeps (w .modem) lent octets read write .clock ∙ like .clocks }) (c .1)
   made-alike (sealDown address said tek vector ∷ ss) v u like c = made-alike ss (next own-fits v (sealDown address said tek vector) (c .0) .inv) u like (c .1)
   made-alike (sealUp said tek vector ∷ ss) v u like c = made-alike ss (next own-fits v (sealUp said tek vector) (c .0) .inv) u like (c .1)
-  made-alike (openUp direction address said number tek vector lent ∷ ss) v u like c =
-      made-alike ss (next own-fits v (openUp direction address said number tek vector lent) (c .0) .inv) u (open-up-like v u like direction address said number tek vector lent) (c .1)
-  made-alike (openDown direction address said number tek vector lent ∷ ss) {w} {x} v u like c =
-      made-alike ss (next own-fits v (openDown direction address said number tek vector lent) (c .0) .inv) u
-      (record { heads = like .heads; records = like .records; clocks = open-keeps (w .modem) direction address said number tek vector lent .clock ∙ like .clocks }) (c .1)
+  made-alike (openUp direction address said number write tek vector lent ∷ ss) v u like c =
+      made-alike ss (next own-fits v (openUp direction address said number write tek vector lent) (c .0) .inv) u (open-up-like v u like direction address said number write tek vector lent) (c .1)
+  made-alike (openDown direction address said number write tek vector lent ∷ ss) {w} {x} v u like c =
+      made-alike ss (next own-fits v (openDown direction address said number write tek vector lent) (c .0) .inv) u
+      (record { heads = like .heads; records = like .records; clocks = open-keeps (w .modem) direction address said number write tek vector lent .clock ∙ like .clocks }) (c .1)
 
 module _ (settings : Settings) (address said : ℕ) (records : List Assoc) (fits : settingsFit settings ≡ true) (address-fits : addressFits address ≡ true) (said-fits : said ≤ 16383) where
   abbrev start : World

@@ -42,45 +42,45 @@ none-opened F tr d e a i f j o k = elim (subst (List·Memᴰ o) e k) [ ]
 module _ {D half own : ℕ} (own-fits : addressFits own ≡ true) {w : World} {tr : List Did} {gs : List Log} (v : Inv D half own w tr gs) where
   pub next : (s : Step) → Allowed D tr w s → Next D half own w tr gs s
   next (list address allowed l m) ok = list-next v address allowed l m
-  next (clock t m lent) ok = clock-next v t m lent
+  next (clock t m write lent) ok = clock-next v t m write lent
   next (established lent) ok = established-next v lent
   next (reauth lent) ok = reauth-next v lent
-  next (up address digest octets key lent) ok = up-next v address digest octets key lent
-  next (down digest octets lent) ok = down-next v digest octets lent ok
+  next (up address read write octets auth lent) ok = up-next v address read write octets auth lent
+  next (down read write octets lent) ok = down-next v read write octets lent ok
   next (sealDown address said tek vector) ok = seal-down-next v address said tek vector
   next (sealUp said tek vector) ok = seal-up-next v own-fits said tek vector
-  next (openUp direction address said number tek vector lent) ok = open-up-next v direction address said number tek vector lent
-  next (openDown direction address said number tek vector lent) ok = open-down-next v direction address said number tek vector lent
+  next (openUp direction address said number write tek vector lent) ok = open-up-next v direction address said number write tek vector lent
+  next (openDown direction address said number write tek vector lent) ok = open-down-next v direction address said number write tek vector lent
 
 module _ {D half own : ℕ} (F : ℕ) (bound : D + F ≤ 14 * half) (own-fits : addressFits own ≡ true) where
   module _ {w : World} {tr : List Did} {gs : List Log} (v : Inv D half own w tr gs) where
     -- ---- and each opening agrees with every earlier sealing
-    down-agrees : (direction address said : ℕ) (number : TekNumber) (tek vector lent : ℕ) → AgreesWith F tr (didOf w (openDown direction address said number tek vector lent))
-    down-agrees direction address said number tek vector lent a i f j o (List·Memᴰ·head e) d soon =
+    down-agrees : (direction address said : ℕ) (number : TekNumber) (write : List ℕ) (tek vector lent : ℕ) → AgreesWith F tr (didOf w (openDown direction address said number write tek vector lent))
+    down-agrees direction address said number write tek vector lent a i f j o (List·Memᴰ·head e) d soon =
         subst (Agree f) (sym e)
         (let q = subst (Delivers f) e d in
-        modem-agrees F bound v a i f j direction address said number tek vector lent (sym (q .receiver)) (q .direction) (q .address) (q .said) (q .number) (q .long) soon)
-    down-agrees direction address said number tek vector lent a i f j o (List·Memᴰ·tail k) d soon = elim k [ ]
+        modem-agrees F bound v a i f j direction address said number write tek vector lent (sym (q .receiver)) (q .direction) (q .address) (q .said) (q .number) (q .long) soon)
+    down-agrees direction address said number write tek vector lent a i f j o (List·Memᴰ·tail k) d soon = elim k [ ]
 
-    up-agrees : (direction address said : ℕ) (number : TekNumber) (tek vector lent : ℕ) → AgreesWith F tr (didOf w (openUp direction address said number tek vector lent))
-    up-agrees direction address said number tek vector lent a i f j o (List·Memᴰ·head e) d soon =
+    up-agrees : (direction address said : ℕ) (number : TekNumber) (write : List ℕ) (tek vector lent : ℕ) → AgreesWith F tr (didOf w (openUp direction address said number write tek vector lent))
+    up-agrees direction address said number write tek vector lent a i f j o (List·Memᴰ·head e) d soon =
         subst (Agree f) (sym e)
         (let q = subst (Delivers f) e d in
-        let same = HeadAnswers.open-same (w .head) (w .records) direction address said number tek vector lent in
-        head-agrees F bound v a i f j direction address said number tek vector lent (sym (q .receiver)) (q .direction) (q .address) (q .said) (q .number) (q .long) (omega (arith, soon, same .clock)))
-    up-agrees direction address said number tek vector lent a i f j o (List·Memᴰ·tail k) d soon = elim k [ ]
+        let same = HeadAnswers.open-same (w .head) (w .records) direction address said number write tek vector lent in
+        head-agrees F bound v a i f j direction address said number write tek vector lent (sym (q .receiver)) (q .direction) (q .address) (q .said) (q .number) (q .long) (omega (arith, soon, same .clock)))
+    up-agrees direction address said number write tek vector lent a i f j o (List·Memᴰ·tail k) d soon = elim k [ ]
 
     agrees : (s : Step) → AgreesWith F tr (didOf w s)
     agrees (list address allowed l m) = none-opened F tr (didOf w (list address allowed l m)) refl
-    agrees (clock t m lent) = none-opened F tr (didOf w (clock t m lent)) refl
+    agrees (clock t m write lent) = none-opened F tr (didOf w (clock t m write lent)) refl
     agrees (established lent) = none-opened F tr (didOf w (established lent)) refl
     agrees (reauth lent) = none-opened F tr (didOf w (reauth lent)) refl
-    agrees (up address digest octets key lent) = none-opened F tr (didOf w (up address digest octets key lent)) refl
-    agrees (down digest octets lent) = none-opened F tr (didOf w (down digest octets lent)) refl
+    agrees (up address read write octets auth lent) = none-opened F tr (didOf w (up address read write octets auth lent)) refl
+    agrees (down read write octets lent) = none-opened F tr (didOf w (down read write octets lent)) refl
     agrees (sealDown address said tek vector) = none-opened F tr (didOf w (sealDown address said tek vector)) refl
     agrees (sealUp said tek vector) = none-opened F tr (didOf w (sealUp said tek vector)) refl
-    agrees (openUp direction address said number tek vector lent) = up-agrees direction address said number tek vector lent
-    agrees (openDown direction address said number tek vector lent) = down-agrees direction address said number tek vector lent
+    agrees (openUp direction address said number write tek vector lent) = up-agrees direction address said number write tek vector lent
+    agrees (openDown direction address said number write tek vector lent) = down-agrees direction address said number write tek vector lent
 
   pub all-agree : (ss : List Step) {w : World} {tr : List Did} {gs : List Log} → Inv D half own w tr gs → Counts D tr w ss → Agrees F tr w ss
   all-agree [] v c = tt

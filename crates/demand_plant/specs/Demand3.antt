@@ -55,21 +55,21 @@ abbrev pub messagesIn : List ℕ → List (List ℕ)
 messagesIn octets = messagesWith (length octets) octets
 
 -- What the modem wrote in a step; a clock call that is refused for both writes nothing
-abbrev pub clockWrote : Bool → World → ℕ → ℕ → List ℕ
-clockWrote true w t lent = Mdm.clockOf (w .modem) t lent .written
-clockWrote false w t lent = []
+abbrev pub clockWrote : Bool → World → ℕ → List ℕ → ℕ → List ℕ
+clockWrote true w t write lent = Mdm.clockOf (w .modem) t write lent .written
+clockWrote false w t write lent = []
 
 abbrev pub modemWrote : World → Step → List ℕ
 modemWrote w (list address allowed l m) = []
-modemWrote w (clock t m lent) = clockWrote (clockAnswers w t m lent) w t lent
+modemWrote w (clock t m write lent) = clockWrote (clockAnswers w t m write lent) w t write lent
 modemWrote w (established lent) = Mdm.establishedOf (w .modem) lent .written
 modemWrote w (reauth lent) = Mdm.reauthOf (w .modem) lent .written
-modemWrote w (up address digest octets key lent) = []
-modemWrote w (down digest octets lent) = Mdm.receiveOf (w .modem) octets digest lent .written
+modemWrote w (up address read write octets auth lent) = []
+modemWrote w (down read write octets lent) = Mdm.receiveOf (w .modem) octets read write lent .written
 modemWrote w (sealDown address said tek vector) = []
 modemWrote w (sealUp said tek vector) = []
-modemWrote w (openUp direction address said number tek vector lent) = []
-modemWrote w (openDown direction address said number tek vector lent) = ModemFrames.openOf (w .modem) direction address said number tek vector lent .sent
+modemWrote w (openUp direction address said number write tek vector lent) = []
+modemWrote w (openDown direction address said number write tek vector lent) = ModemFrames.openOf (w .modem) direction address said number write tek vector lent .sent
 
 -- A message that the modem sent, and the second
 pub record Sent : Type 0 where
@@ -105,31 +105,32 @@ pub record FrameCopy (F : ℕ) (earlier : List Did) (now : ℕ) (b : Did) : Type
 abbrev pub IsRefused : World → Step → Type 0
 IsRefused w s = stepOf w s .given .number ≡ 0 → ⊥
 
--- Delivery to the head-end of a copy of what the modem sent, digest yes, slices long enough; or any message from another modem's address
-abbrev pub UpListed : ℕ → List Sent → World → ℕ → Bool → List ℕ → List ℕ → ℕ → Type 0
-UpListed D sent w address digest octets key lent =
-    ((address ≡ w .modem .address) × SentCopy D sent (w .head .clock) octets × (digest ≡ true) × (342 ≤ lent) × (1 ≤ length key) × (length key ≤ 256))
+-- Delivery to the head-end of a copy of what the modem sent, with any keys of 20 octets and slices long enough; or any message from another
+-- modem's address. The copy carries the digest that it was sent with
+abbrev pub UpListed : ℕ → List Sent → World → ℕ → List ℕ → List ℕ → List ℕ → List ℕ → ℕ → Type 0
+UpListed D sent w address read write octets auth lent =
+    ((address ≡ w .modem .address) × SentCopy D sent (w .head .clock) octets × (length read ≡ 20) × (length write ≡ 20) × (342 ≤ lent) × (1 ≤ length auth) × (length auth ≤ 256))
     ⊎ (address ≡ w .modem .address → ⊥)
 
--- Delivery to the modem of a copy of what the head-end sent it, digest yes, the slice long enough
-abbrev pub DownListed : ℕ → List Did → World → Bool → List ℕ → ℕ → Type 0
-DownListed D earlier w digest octets lent = Copy D earlier (w .head .clock) octets × (digest ≡ true) × (216 ≤ lent)
+-- Delivery to the modem of a copy of what the head-end sent it, with any keys of 20 octets, the slice long enough
+abbrev pub DownListed : ℕ → List Did → World → List ℕ → List ℕ → List ℕ → ℕ → Type 0
+DownListed D earlier w read write octets lent = Copy D earlier (w .head .clock) octets × (length read ≡ 20) × (length write ≡ 20) × (216 ≤ lent)
 
 -- A step of such a list: listing others, the clock, established, reauth and sealing ask nothing
 abbrev pub StepListed : ℕ → ℕ → List Sent → List Did → World → Step → Type 0
 StepListed D F sent earlier w (list address allowed l m) = Unit {0}
-StepListed D F sent earlier w (clock t m lent) = Unit {0}
+StepListed D F sent earlier w (clock t m write lent) = Unit {0}
 StepListed D F sent earlier w (established lent) = Unit {0}
 StepListed D F sent earlier w (reauth lent) = Unit {0}
-StepListed D F sent earlier w (up address digest octets key lent) =
-    UpListed D sent w address digest octets key lent ⊎ IsRefused w (up address digest octets key lent)
-StepListed D F sent earlier w (down digest octets lent) = DownListed D earlier w digest octets lent ⊎ IsRefused w (down digest octets lent)
+StepListed D F sent earlier w (up address read write octets auth lent) =
+    UpListed D sent w address read write octets auth lent ⊎ IsRefused w (up address read write octets auth lent)
+StepListed D F sent earlier w (down read write octets lent) = DownListed D earlier w read write octets lent ⊎ IsRefused w (down read write octets lent)
 StepListed D F sent earlier w (sealDown address said tek vector) = Unit {0}
 StepListed D F sent earlier w (sealUp said tek vector) = Unit {0}
-StepListed D F sent earlier w (openUp direction address said number tek vector lent) =
-    FrameCopy F earlier (w .head .clock) (didOf w (openUp direction address said number tek vector lent)) ⊎ IsRefused w (openUp direction address said number tek vector lent)
-StepListed D F sent earlier w (openDown direction address said number tek vector lent) =
-    FrameCopy F earlier (w .head .clock) (didOf w (openDown direction address said number tek vector lent)) ⊎ IsRefused w (openDown direction address said number tek vector lent)
+StepListed D F sent earlier w (openUp direction address said number write tek vector lent) =
+    FrameCopy F earlier (w .head .clock) (didOf w (openUp direction address said number write tek vector lent)) ⊎ IsRefused w (openUp direction address said number write tek vector lent)
+StepListed D F sent earlier w (openDown direction address said number write tek vector lent) =
+    FrameCopy F earlier (w .head .clock) (didOf w (openDown direction address said number write tek vector lent)) ⊎ IsRefused w (openDown direction address said number write tek vector lent)
 
 abbrev pub AllStepsListed : ℕ → ℕ → List Sent → List Did → World → List Step → Type 0
 AllStepsListed D F sent earlier w [] = Unit {0}
@@ -140,15 +141,15 @@ AllStepsListed D F sent earlier w (s ∷ ss) =
 abbrev pub ListsFirst : World → List Step → Type 0
 ListsFirst w [] = ⊥
 ListsFirst w (list address allowed l m ∷ ss) = (address ≡ w .modem .address) × (allowed ≡ 1) × (stepOf w (list address allowed l m) .given .number ≡ 0)
-ListsFirst w (clock t m lent ∷ ss) = ⊥
+ListsFirst w (clock t m write lent ∷ ss) = ⊥
 ListsFirst w (established lent ∷ ss) = ⊥
 ListsFirst w (reauth lent ∷ ss) = ⊥
-ListsFirst w (up address digest octets key lent ∷ ss) = ⊥
-ListsFirst w (down digest octets lent ∷ ss) = ⊥
+ListsFirst w (up address read write octets auth lent ∷ ss) = ⊥
+ListsFirst w (down read write octets lent ∷ ss) = ⊥
 ListsFirst w (sealDown address said tek vector ∷ ss) = ⊥
 ListsFirst w (sealUp said tek vector ∷ ss) = ⊥
-ListsFirst w (openUp direction address said number tek vector lent ∷ ss) = ⊥
-ListsFirst w (openDown direction address said number tek vector lent ∷ ss) = ⊥
+ListsFirst w (openUp direction address said number write tek vector lent ∷ ss) = ⊥
+ListsFirst w (openDown direction address said number write tek vector lent ∷ ss) = ⊥
 
 pub record Listed (D F : ℕ) (w : World) (ss : List Step) : Type 0 where
   pub first : ListsFirst w ss

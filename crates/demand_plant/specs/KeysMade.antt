@@ -30,15 +30,15 @@ clockIf false t m = []
 
 abbrev pub acceptedIn : World → Step → List Accepted
 acceptedIn w (list address allowed l m) = acceptedIf (Head.listOf (w .head) (w .records) address allowed l m .answer) (acceptedList (w .head) l m)
-acceptedIn w (clock t m lent) = clockIf (clockAnswers w t m lent) t m
+acceptedIn w (clock t m write lent) = clockIf (clockAnswers w t m write lent) t m
 acceptedIn w (established lent) = []
 acceptedIn w (reauth lent) = []
-acceptedIn w (up address digest octets key lent) = []
-acceptedIn w (down digest octets lent) = []
+acceptedIn w (up address read write octets auth lent) = []
+acceptedIn w (down read write octets lent) = []
 acceptedIn w (sealDown address said tek vector) = []
 acceptedIn w (sealUp said tek vector) = []
-acceptedIn w (openUp direction address said number tek vector lent) = []
-acceptedIn w (openDown direction address said number tek vector lent) = []
+acceptedIn w (openUp direction address said number write tek vector lent) = []
+acceptedIn w (openDown direction address said number write tek vector lent) = []
 
 abbrev pub acceptedBy : World → List Step → List Accepted
 acceptedBy w [] = []
@@ -53,15 +53,15 @@ SecondsGiven now (madeByClock t m ∷ cs) = SecondsGiven t cs
 -- ---- all but the listings and clock calls struck out
 abbrev pub keptStep : Step → List Step
 keptStep (list address allowed l m) = list address allowed l m ∷ []
-keptStep (clock t m lent) = clock t m lent ∷ []
+keptStep (clock t m write lent) = clock t m write lent ∷ []
 keptStep (established lent) = []
 keptStep (reauth lent) = []
-keptStep (up address digest octets key lent) = []
-keptStep (down digest octets lent) = []
+keptStep (up address read write octets auth lent) = []
+keptStep (down read write octets lent) = []
 keptStep (sealDown address said tek vector) = []
 keptStep (sealUp said tek vector) = []
-keptStep (openUp direction address said number tek vector lent) = []
-keptStep (openDown direction address said number tek vector lent) = []
+keptStep (openUp direction address said number write tek vector lent) = []
+keptStep (openDown direction address said number write tek vector lent) = []
 
 abbrev pub struck : List Step → List Step
 struck [] = []

@@ -32,19 +32,19 @@ pub record Copy (D : ℕ) (earlier : List Did) (now : ℕ) (octets : List ℕ) :
   pub in-time : now ≤ sender .clock + D
 
 -- What is asked of a step: what reaches the modem is a copy of what the head-end sent it, or is refused. Of every other step nothing is
--- asked: any message may reach the head-end, from any address and with any digest word
+-- asked: any message may reach the head-end, from any address, and any keys may be lent
 abbrev pub Allowed : ℕ → List Did → World → Step → Type 0
-Allowed D earlier w (down digest octets lent) =
-    Copy D earlier (w .head .clock) octets ⊎ (stepOf w (down digest octets lent) .given .number ≡ 0 → ⊥)
+Allowed D earlier w (down read write octets lent) =
+    Copy D earlier (w .head .clock) octets ⊎ (stepOf w (down read write octets lent) .given .number ≡ 0 → ⊥)
 Allowed D earlier w (list address allowed l m) = Unit {0}
-Allowed D earlier w (clock t m lent) = Unit {0}
+Allowed D earlier w (clock t m write lent) = Unit {0}
 Allowed D earlier w (established lent) = Unit {0}
 Allowed D earlier w (reauth lent) = Unit {0}
-Allowed D earlier w (up address digest octets key lent) = Unit {0}
+Allowed D earlier w (up address read write octets auth lent) = Unit {0}
 Allowed D earlier w (sealDown address said tek vector) = Unit {0}
 Allowed D earlier w (sealUp said tek vector) = Unit {0}
-Allowed D earlier w (openUp direction address said number tek vector lent) = Unit {0}
-Allowed D earlier w (openDown direction address said number tek vector lent) = Unit {0}
+Allowed D earlier w (openUp direction address said number write tek vector lent) = Unit {0}
+Allowed D earlier w (openDown direction address said number write tek vector lent) = Unit {0}
 
 -- Each step of a list is allowed, with the trace so far
 abbrev pub Counts : ℕ → List Did → World → List Step → Type 0

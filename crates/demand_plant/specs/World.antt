@@ -12,6 +12,7 @@ use Rattle.questions.specs.Refusal.{answerNumber, isDone}
 use Rattle.key_traffic.specs.Sealing.{KeyOut, Sealed}
 use Rattle.key_association.specs.declared.listing.Listing.{Listing}
 use Rattle.key_association.specs.declared.record.Assoc.{Assoc}
+use Rattle.message_digest.specs.Digest.{messageKeyFits}
 use Rattle.headend_state.specs.declared.state.HeadEnd.{HeadEnd}
 use Rattle.headend_state.specs.State as HeadState
 use Rattle.headend_frames.specs.Frames.{HeadOpened}
@@ -38,26 +39,26 @@ fresh settings address said records =
       modem = ModemState.freshOf settings address said;
     }
 
--- Each step with its arguments; of a slice that is only written its length
+-- Each step with its arguments; of a slice that is only written its length. Message keys are any octets: none is assumed to be an end's own
 pub data Step : Type 0 where
   -- address, allowed or barred, SAIDs with suites, material
   list : ℕ → ℕ → Listing → List ℕ → Step
-  -- second, material, messages: one second for both ends
-  clock : ℕ → List ℕ → ℕ → Step
+  -- second, material, the modem's write key, messages: one second for both ends
+  clock : ℕ → List ℕ → List ℕ → ℕ → Step
   established : ℕ → Step
   reauth : ℕ → Step
-  -- a message to the head-end: address, digest, octets, AUTH-Key, answer
-  up : ℕ → Bool → List ℕ → List ℕ → ℕ → Step
-  -- a message to the modem: digest, octets, messages
-  down : Bool → List ℕ → ℕ → Step
+  -- a message to the head-end: address, read key, write key, octets, AUTH-Key, answer
+  up : ℕ → List ℕ → List ℕ → List ℕ → List ℕ → ℕ → Step
+  -- a message to the modem: read key, write key, octets, messages
+  down : List ℕ → List ℕ → List ℕ → ℕ → Step
   -- a sealing at the head-end: address, SAID, TEK, vector
   sealDown : ℕ → ℕ → ℕ → ℕ → Step
   -- a sealing at the modem: SAID, TEK, vector
   sealUp : ℕ → ℕ → ℕ → Step
-  -- an opening at the head-end: direction, address, SAID, number, TEK, vector, TEK Invalid
-  openUp : ℕ → ℕ → ℕ → TekNumber → ℕ → ℕ → ℕ → Step
-  -- an opening at the modem: direction, address, SAID, number, TEK, vector, messages
-  openDown : ℕ → ℕ → ℕ → TekNumber → ℕ → ℕ → ℕ → Step
+  -- an opening at the head-end: direction, address, SAID, number, write key, TEK, vector, TEK Invalid
+  openUp : ℕ → ℕ → ℕ → TekNumber → List ℕ → ℕ → ℕ → ℕ → Step
+  -- an opening at the modem: direction, address, SAID, number, write key, TEK, vector, messages
+  openDown : ℕ → ℕ → ℕ → TekNumber → List ℕ → ℕ → ℕ → ℕ → Step
 
 -- A frame that a sealing gave: its direction (0 up, 1 down), address, SAID and number, and the octets of TEK and vector
 pub record Frame : Type 0 where
@@ -67,7 +68,7 @@ pub record Frame : Type 0 where
   pub number : TekNumber
   pub out : KeyOut
 
--- An opening: at which end (0 the head-end, 1 the modem), with which frame, whether the slices are long enough, document 01's number of
+-- An opening: at which end (0 the head-end, 1 the modem), with which frame, whether the slices are long enough and the write key has its length, document 01's number of
 -- the answer, and the octets
 pub record Opening : Type 0 where
   pub end : ℕ
@@ -115,22 +116,22 @@ abbrev pub withModem : World → Modem → World
 withModem w m = record { head = w .head; records = w .records; modem = m }
 
 -- The clock is refused for both where either refuses
-abbrev pub clockedBy : Bool → World → ℕ → List ℕ → ℕ → World
-clockedBy true w t m lent =
+abbrev pub clockedBy : Bool → World → ℕ → List ℕ → List ℕ → ℕ → World
+clockedBy true w t m write lent =
     record {
       head = Head.clockOf (w .head) (w .records) t m .state;
       records = Head.clockRecords (w .head) (w .records) t m;
-      modem = Mdm.clockOf (w .modem) t lent .called .modem;
+      modem = Mdm.clockOf (w .modem) t write lent .called .modem;
     }
-clockedBy false w t m lent = w
+clockedBy false w t m write lent = w
 
 -- Of the two ends' numbers that of the earlier question; 0 is no refusal
 abbrev pub earliest : ℕ → ℕ → ℕ
 earliest a b = cond (eqb a 0) b (cond (eqb b 0) a (cond (leb a b) a b))
 
-abbrev pub clockAnswers : World → ℕ → List ℕ → ℕ → Bool
-clockAnswers w t m lent =
-    isDone (Head.clockOf (w .head) (w .records) t m .answer) && isDone (Mdm.clockOf (w .modem) t lent .called .answer)
+abbrev pub clockAnswers : World → ℕ → List ℕ → List ℕ → ℕ → Bool
+clockAnswers w t m write lent =
+    isDone (Head.clockOf (w .head) (w .records) t m .answer) && isDone (Mdm.clockOf (w .modem) t write lent .called .answer)
 
 -- On 13 the head-end's TEK Invalid is put out
 abbrev pub openedUp : World → ℕ → ℕ → ℕ → TekNumber → Bool → HeadOpened → Stepped
@@ -163,10 +164,10 @@ stepOf w (list address allowed l m) =
       world = withHead w (Head.listOf (w .head) (w .records) address allowed l m .state) (Head.listRecords (w .head) (w .records) address allowed l m);
       given = answered (answerNumber (Head.listOf (w .head) (w .records) address allowed l m .answer)) [];
     }
-stepOf w (clock t m lent) =
+stepOf w (clock t m write lent) =
     record {
-      world = clockedBy (clockAnswers w t m lent) w t m lent;
-      given = answered (earliest (answerNumber (Head.clockOf (w .head) (w .records) t m .answer)) (answerNumber (Mdm.clockOf (w .modem) t lent .called .answer))) [];
+      world = clockedBy (clockAnswers w t m write lent) w t m write lent;
+      given = answered (earliest (answerNumber (Head.clockOf (w .head) (w .records) t m .answer)) (answerNumber (Mdm.clockOf (w .modem) t write lent .called .answer))) [];
     }
 stepOf w (established lent) =
     record {
@@ -178,24 +179,24 @@ stepOf w (reauth lent) =
       world = withModem w (Mdm.reauthOf (w .modem) lent .called .modem);
       given = answered (answerNumber (Mdm.reauthOf (w .modem) lent .called .answer)) [];
     }
-stepOf w (up address digest octets key lent) =
+stepOf w (up address read write octets auth lent) =
     record {
-      world = withHead w (Head.receiveOf (w .head) (w .records) address digest octets key lent .state) (w .records);
-      given = answered (answerNumber (Head.receiveOf (w .head) (w .records) address digest octets key lent .answer))
-          (oneIf (eqb address (w .modem .address)) (Head.receiveOctets (w .head) (w .records) address digest octets key lent));
+      world = withHead w (Head.receiveOf (w .head) (w .records) address read write octets auth lent .state) (w .records);
+      given = answered (answerNumber (Head.receiveOf (w .head) (w .records) address read write octets auth lent .answer))
+          (oneIf (eqb address (w .modem .address)) (Head.receiveOctets (w .head) (w .records) address read write octets auth lent));
     }
-stepOf w (down digest octets lent) =
+stepOf w (down read write octets lent) =
     record {
-      world = withModem w (Mdm.receiveOf (w .modem) octets digest lent .called .modem);
-      given = answered (answerNumber (Mdm.receiveOf (w .modem) octets digest lent .called .answer)) [];
+      world = withModem w (Mdm.receiveOf (w .modem) octets read write lent .called .modem);
+      given = answered (answerNumber (Mdm.receiveOf (w .modem) octets read write lent .called .answer)) [];
     }
 stepOf w (sealDown address said tek vector) =
     record { world = w; given = sealedAs 1 address said (HeadFrames.sealOf (w .head) (w .records) address said tek vector) }
 stepOf w (sealUp said tek vector) =
     record { world = w; given = sealedAs 0 (w .modem .address) said (ModemFrames.sealOf (w .modem) said tek vector) }
-stepOf w (openUp direction address said number tek vector lent) =
-    openedUp w direction address said number (leb 16 tek && leb 16 vector && leb 40 lent)
-    (HeadFrames.openOf (w .head) (w .records) direction address said number tek vector lent)
-stepOf w (openDown direction address said number tek vector lent) =
-    openedDown w direction address said number (leb 16 tek && leb 16 vector && leb 216 lent)
-    (ModemFrames.openOf (w .modem) direction address said number tek vector lent)
+stepOf w (openUp direction address said number write tek vector lent) =
+    openedUp w direction address said number (messageKeyFits write && leb 16 tek && leb 16 vector && leb 40 lent)
+    (HeadFrames.openOf (w .head) (w .records) direction address said number write tek vector lent)
+stepOf w (openDown direction address said number write tek vector lent) =
+    openedDown w direction address said number (messageKeyFits write && leb 16 tek && leb 16 vector && leb 216 lent)
+    (ModemFrames.openOf (w .modem) direction address said number write tek vector lent)

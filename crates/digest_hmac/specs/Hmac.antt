@@ -52,6 +52,10 @@ Collects d x y r = (r ≡ 0 → (d ≡ 0) × (x ≡ y)) × (d ≡ 0 → x ≡ y 
 unfoldable pub holds : List ℕ → ℕ → List ℕ → ℕ → Bool
 holds m upto k at = same (hmac k (take upto m)) (take 20 (drop at m))
 
+-- the same for any numbers: it does not hold where what it covers is not all in m
+unfoldable pub holdsWithin : List ℕ → ℕ → List ℕ → ℕ → Bool
+holdsWithin m upto k at = leb upto (length m) && holds m upto k at
+
 -- m with the HMAC of the octets before upto stored from at on
 unfoldable pub filled : List ℕ → ℕ → List ℕ → ℕ → List ℕ
 filled m upto k at = sets m at (hmac k (take upto m))

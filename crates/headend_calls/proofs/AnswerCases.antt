@@ -1,6 +1,6 @@
 -- The answer that `receive` writes to a message that it takes, case by case in document 01's order ("Head-end answers"), and the head-end after it.
 use mathlib.Core.Path.{_≡_, refl, sym, _∙_, ap, subst}
-use mathlib.Core.Bool.{Bool, true, false, cond}
+use mathlib.Core.Bool.{Bool, true, false, cond, not}
 use mathlib.Core.List.{List, []}
 use Prim.Native.Nat.{ℕ, _+_, _≤_, _<_}
 use native.Mathlib.Omega.{arith}
@@ -30,6 +30,7 @@ use Rattle.headend_steps.specs.Receive.{answerOctets}
 use Rattle.headend_answers.proofs.AnswersLaws.{key-unlisted, key-inactive, key-digest, key-foreign, key-granted, request-unlisted, request-barred, request-allowed, react-request, react-key, react-none}
 use Rattle.headend_steps.proofs.AnswerFits.{suits-reply}
 use Rattle.headend_state.proofs.AuthorizationLaws.{none-active, one-active, two-active}
+use Rattle.headend_calls.specs.Calls.{requestHolds}
 use Rattle.headend_calls.proofs.AnswersSent.{request, found, reaction, Takes, Sent, takes-asked, receive-done}
 
 -- ---- the record that a search finds
@@ -50,7 +51,7 @@ module _ (p : Probe) (xs : List Assoc) where
 abbrev pub placeOf : List Assoc → List ℕ → ℕ
 placeOf xs s = firstOf (ofRequest (readOf AtHeadEnd s)) xs
 
-module _ (h : HeadEnd) (xs : List Assoc) (address : ℕ) (digest : Bool) (s key : List ℕ) (lent : ℕ) where
+module _ (h : HeadEnd) (xs : List Assoc) (address : ℕ) (read write s auth : List ℕ) (lent : ℕ) where
   -- A Key Reply of the record a, which is that of the SAID, in use, within its limits, with lives that can be written, and has a suite that the
   -- modem's entry names for the SAID: its older key, then its newer, each with its deadline minus the clock
   pub record KeyReplied (a : Assoc) : Type 0 where
@@ -60,68 +61,68 @@ module _ (h : HeadEnd) (xs : List Assoc) (address : ℕ) (digest : Bool) (s key 
     pub limits : InLimits (halfIn h) (h .clock) a
     pub short : lifeLeft (h .clock) (a .newer .deadline) ≤ 604800
     pub suite : listsSuite (knownOf h address .entry .listing) (request s .said) (a .suite) ≡ true
-    pub sent : Sent h xs address digest s key lent (keyReply (h .clock) a (request s)) h
+    pub sent : Sent h xs address read write s auth lent (keyReply (h .clock) a (request s)) h
 
   -- An Authorization Reply with the number and the remaining life of the newest of the keys k, which the modem's entry has after the call
   abbrev pub Replied : AuthKeys → Type 0
   Replied k =
-      Sent h xs address digest s key lent
+      Sent h xs address read write s auth lent
       (replyAnswer (h .clock) (request s .identifier) (knownOf h address .entry .listing) k)
       (withEntry h (knownOf h address .at) (withKeys (knownOf h address .entry) k))
 
 -- ---- the cases
-module _ (h : HeadEnd) (xs : List Assoc) (address : ℕ) (digest : Bool) (s key : List ℕ) (lent : ℕ)
-    (done : Takes h xs address digest s key lent) where
+module _ (h : HeadEnd) (xs : List Assoc) (address : ℕ) (read write s auth : List ℕ) (lent : ℕ)
+    (done : Takes h xs address read write s auth lent) where
   -- What is known of its address, the record found, and what the call writes with the state after it
   abbrev known : Known
   known = knownOf h address
 
   abbrev Answered : Fields → HeadEnd → Type 0
-  Answered f after = Sent h xs address digest s key lent f after
+  Answered f after = Sent h xs address read write s auth lent f after
 
   abbrev held : Assoc
   held = found xs s .held
 
-  answered-by : (f : Fields) (after : HeadEnd) → reaction h xs address digest s ≡ record { state = after; answer = f } → Answered f after
-  answered-by f after e = subst (λ (w : Reaction). Answered (w .answer) (w .state)) e (receive-done h xs address digest s key lent done)
+  answered-by : (f : Fields) (after : HeadEnd) → reaction h xs address read s ≡ record { state = after; answer = f } → Answered f after
+  answered-by f after e = subst (λ (w : Reaction). Answered (w .answer) (w .state)) e (receive-done h xs address read write s auth lent done)
 
   -- ---- Key Request
   module _ (code : request s .code ≡ 7) where
-    by-key : (f : Fields) → keyAnswer (h .clock) known held digest (request s) ≡ f → Answered f h
+    by-key : (f : Fields) → keyAnswer (h .clock) known held (requestHolds read s) (request s) ≡ f → Answered f h
     by-key f e =
         answered-by f h
-        (react-key h known held digest (request s) (ne-eqb (request s .code) 4 (λ q. omega (arith, q, code))) (eq-eqb (request s .code) 7 code)
+        (react-key h known held (requestHolds read s) (request s) (ne-eqb (request s .code) 4 (λ q. omega (arith, q, code))) (eq-eqb (request s .code) 7 code)
         ∙ ap (λ (g : Fields). record { state = h; answer = g }) e)
 
     -- The address is not listed: Authorization Invalid, error 1
-    pub sent-key-unlisted : knownOf h address .«is_listed» ≡ false → Sent h xs address digest s key lent (invalid (request s .identifier) 1) h
-    sent-key-unlisted unlisted = by-key (invalid (request s .identifier) 1) (key-unlisted (h .clock) known held digest (request s) unlisted)
+    pub sent-key-unlisted : knownOf h address .«is_listed» ≡ false → Sent h xs address read write s auth lent (invalid (request s .identifier) 1) h
+    sent-key-unlisted unlisted = by-key (invalid (request s .identifier) 1) (key-unlisted (h .clock) known held (requestHolds read s) (request s) unlisted)
 
     module _ (listed : knownOf h address .«is_listed» ≡ true) where
       -- No key of the number that it names is active: error 4
       pub sent-key-inactive : isActive (h .clock) (request s .ak) (knownOf h address .entry .keys) ≡ false
-          → Sent h xs address digest s key lent (invalid (request s .identifier) 4) h
-      sent-key-inactive inactive = by-key (invalid (request s .identifier) 4) (key-inactive (h .clock) known held digest (request s) listed inactive)
+          → Sent h xs address read write s auth lent (invalid (request s .identifier) 4) h
+      sent-key-inactive inactive = by-key (invalid (request s .identifier) 4) (key-inactive (h .clock) known held (requestHolds read s) (request s) listed inactive)
 
       module _ (active : isActive (h .clock) (request s .ak) (knownOf h address .entry .keys) ≡ true) where
         -- The digest does not hold: error 5
-        pub sent-key-digest : digest ≡ false → Sent h xs address digest s key lent (invalid (request s .identifier) 5) h
-        sent-key-digest fails = by-key (invalid (request s .identifier) 5) (key-digest (h .clock) known held digest (request s) listed active fails)
+        pub sent-key-digest : requestHolds read s ≡ false → Sent h xs address read write s auth lent (invalid (request s .identifier) 5) h
+        sent-key-digest fails = by-key (invalid (request s .identifier) 5) (key-digest (h .clock) known held (requestHolds read s) (request s) listed active fails)
 
-        module _ (holds : digest ≡ true) where
+        module _ (holds : requestHolds read s ≡ true) where
           -- The SAID is not this modem's: Key Reject, error 2
           pub sent-key-foreign : lists (knownOf h address .entry .listing) (request s .said) ≡ false
-              → Sent h xs address digest s key lent (keyReject (request s) 2) h
-          sent-key-foreign foreign = by-key (keyReject (request s) 2) (key-foreign (h .clock) known held digest (request s) listed active holds foreign)
+              → Sent h xs address read write s auth lent (keyReject (request s) 2) h
+          sent-key-foreign foreign = by-key (keyReject (request s) 2) (key-foreign (h .clock) known held (requestHolds read s) (request s) listed active holds foreign)
 
           -- Else a Key Reply of the SAID's record
           pub sent-key-reply : lists (knownOf h address .entry .listing) (request s .said) ≡ true
-              → KeyReplied h xs address digest s key lent (getD xs (placeOf xs s) none)
+              → KeyReplied h xs address read write s auth lent (getD xs (placeOf xs s) none)
           sent-key-reply own =
               let p = ofRequest (readOf AtHeadEnd s) in
-              let q = takes-asked h xs address digest s key lent done in
+              let q = takes-asked h xs address read write s auth lent done in
               let suits =
-              suits-reply h (length xs) (found xs s) known digest (request s) (q .records-lent) (eq-eqb (request s .code) 7 code)
+              suits-reply h (length xs) (found xs s) known (requestHolds read s) (request s) (q .records-lent) (eq-eqb (request s .code) 7 code)
               (record { listed = listed; active = active; holds = holds; named = own }) (q .record-suits) in
               let less : placeOf xs s < h .used = omega (arith, suits .0, looked-at p xs) in
               let all : placeOf xs s < length xs = omega (arith, less, q .records-lent) in
@@ -134,60 +135,86 @@ module _ (h : HeadEnd) (xs : List Assoc) (address : ℕ) (digest : Bool) (s key 
                 short = rw same at (suits .3);
                 suite = rw same at (suits .2);
                 sent = by-key (keyReply (h .clock) (getD xs (placeOf xs s) none) (request s))
-                    (key-granted (h .clock) known held digest (request s) listed active holds own ∙ ap (λ (a : Assoc). keyReply (h .clock) a (request s)) same);
+                    (key-granted (h .clock) known held (requestHolds read s) (request s) listed active holds own ∙ ap (λ (a : Assoc). keyReply (h .clock) a (request s)) same);
               }
 
   -- ---- Authorization Request
   module _ (code : request s .code ≡ 4) where
     by-request : (f : Fields) (after : HeadEnd) → requestReaction h known (request s .identifier) ≡ record { state = after; answer = f } → Answered f after
-    by-request f after e = answered-by f after (react-request h known held digest (request s) (eq-eqb (request s .code) 4 code) ∙ e)
+    by-request f after e = answered-by f after (react-request h known held (requestHolds read s) (request s) (eq-eqb (request s .code) 4 code) ∙ e)
 
     -- The address is not listed: Authorization Reject, error 1
-    pub sent-unlisted : knownOf h address .«is_listed» ≡ false → Sent h xs address digest s key lent (reject (request s .identifier) 1) h
+    pub sent-unlisted : knownOf h address .«is_listed» ≡ false → Sent h xs address read write s auth lent (reject (request s .identifier) 1) h
     sent-unlisted unlisted = by-request (reject (request s .identifier) 1) h (request-unlisted h known (request s .identifier) unlisted)
 
     module _ (listed : knownOf h address .«is_listed» ≡ true) where
       -- The modem is barred: error 6
-      pub sent-barred : knownOf h address .entry .allowed ≡ 0 → Sent h xs address digest s key lent (reject (request s .identifier) 6) h
+      pub sent-barred : knownOf h address .entry .allowed ≡ 0 → Sent h xs address read write s auth lent (reject (request s .identifier) 6) h
       sent-barred barred =
           by-request (reject (request s .identifier) 6) h (request-barred h known (request s .identifier) listed (eq-eqb (known .entry .allowed) 0 barred))
 
       -- It is allowed: a Reply
       module _ (allowed : knownOf h address .entry .allowed ≡ 1) where
-        pub sent-allowed : Replied h xs address digest s key lent (keysFor (h .settings .ak .life) (h .clock) (knownOf h address .entry .keys))
+        pub sent-allowed : Replied h xs address read write s auth lent (keysFor (h .settings .ak .life) (h .clock) (knownOf h address .entry .keys))
         sent-allowed =
             by-request (replyAnswer (h .clock) (request s .identifier) (known .entry .listing) (keysAfter h (known .entry))) (stateAfter h known)
             (request-allowed h known (request s .identifier) listed (ne-eqb (known .entry .allowed) 0 (λ q. omega (arith, q, allowed))))
 
-        by-keys : (k : AuthKeys) → k ≡ keysFor (h .settings .ak .life) (h .clock) (known .entry .keys) → Replied h xs address digest s key lent k
-        by-keys k e = subst (Replied h xs address digest s key lent) (sym e) sent-allowed
+        by-keys : (k : AuthKeys) → k ≡ keysFor (h .settings .ak .life) (h .clock) (known .entry .keys) → Replied h xs address read write s auth lent k
+        by-keys k e = subst (Replied h xs address read write s auth lent) (sym e) sent-allowed
 
         -- No key is active: one more, with a deadline A after the clock
         pub sent-none-active : knownOf h address .entry .keys .older ≤ h .clock → knownOf h address .entry .keys .newer ≤ h .clock
-            → Replied h xs address digest s key lent (withKey (knownOf h address .entry .keys) (h .clock + h .settings .ak .life))
+            → Replied h xs address read write s auth lent (withKey (knownOf h address .entry .keys) (h .clock + h .settings .ak .life))
         sent-none-active past over =
             by-keys (withKey (known .entry .keys) (h .clock + h .settings .ak .life))
             (none-active (h .settings .ak .life) (h .clock) (known .entry .keys) past over)
 
         -- One is active: one more, A after the first's
         pub sent-one-active : knownOf h address .entry .keys .older ≤ h .clock → h .clock < knownOf h address .entry .keys .newer
-            → Replied h xs address digest s key lent (withKey (knownOf h address .entry .keys) (knownOf h address .entry .keys .newer + h .settings .ak .life))
+            → Replied h xs address read write s auth lent (withKey (knownOf h address .entry .keys) (knownOf h address .entry .keys .newer + h .settings .ak .life))
         sent-one-active past live =
             by-keys (withKey (known .entry .keys) (known .entry .keys .newer + h .settings .ak .life))
             (one-active (h .settings .ak .life) (h .clock) (known .entry .keys) past live)
 
         -- Two are active: none is made
         pub sent-two-active : h .clock < knownOf h address .entry .keys .older → h .clock < knownOf h address .entry .keys .newer
-            → Replied h xs address digest s key lent (knownOf h address .entry .keys)
+            → Replied h xs address read write s auth lent (knownOf h address .entry .keys)
         sent-two-active first second = by-keys (known .entry .keys) (two-active (h .settings .ak .life) (h .clock) (known .entry .keys) first second)
 
   -- ---- Authentication Information gets no answer
-  pub sent-none : request s .code ≡ 12 → Sent h xs address digest s key lent noFields h
+  pub sent-none : request s .code ≡ 12 → Sent h xs address read write s auth lent noFields h
   sent-none code =
       answered-by noFields h
-      (react-none h known held digest (request s) (ne-eqb (request s .code) 4 (λ q. omega (arith, q, code))) (ne-eqb (request s .code) 7 (λ q. omega (arith, q, code))))
+      (react-none h known held (requestHolds read s) (request s) (ne-eqb (request s .code) 4 (λ q. omega (arith, q, code))) (ne-eqb (request s .code) 7 (λ q. omega (arith, q, code))))
 
 -- no octets where the code is 0
-pub none-octets : (key : List ℕ) → answerOctets noFields key ≡ []
+pub none-octets : (auth write : List ℕ) → answerOctets noFields auth write ≡ []
 unfolding answerOctets
-none-octets key = refl
+none-octets auth write = refl
+
+-- ---- error 5 only there: an Authorization Invalid with it answers a Key Request of a listed modem, under an active key, whose digest does not hold
+error-5 : (clock : ℕ) (k : Known) (a : Assoc) (digest : Bool) (f : Fields) → keyAnswer clock k a digest f .code ≡ 10 → keyAnswer clock k a digest f .error ≡ 5
+    → (k .«is_listed» ≡ true) × (isActive clock (f .ak) (k .entry .keys) ≡ true) × (digest ≡ false)
+unfolding keyAnswer
+error-5 clock k a digest f = go (k .«is_listed») (isActive clock (f .ak) (k .entry .keys)) digest (lists (k .entry .listing) (f .said))
+  where
+    by : Bool → Bool → Bool → Bool → Fields
+    by b₁ b₂ b₃ b₄ = cond (not b₁) (invalid (f .identifier) 1) (cond (not b₂) (invalid (f .identifier) 4) (cond (not b₃) (invalid (f .identifier) 5) (cond (not b₄) (keyReject f 2) (keyReply clock a f))))
+
+    go : (b₁ b₂ b₃ b₄ : Bool) → by b₁ b₂ b₃ b₄ .code ≡ 10 → by b₁ b₂ b₃ b₄ .error ≡ 5 → (b₁ ≡ true) × (b₂ ≡ true) × (b₃ ≡ false)
+    go false b₂ b₃ b₄ c e = absurd (omega (arith, e))
+    go true false b₃ b₄ c e = absurd (omega (arith, e))
+    go true true false b₄ c e = (refl, refl, refl)
+    go true true true false c e = absurd (omega (arith, c))
+    go true true true true c e = absurd (omega (arith, c))
+
+pub sent-digest-only : (h : HeadEnd) (xs : List Assoc) (address : ℕ) (read s : List ℕ) → request s .code ≡ 7
+    → reaction h xs address read s .answer .code ≡ 10 → reaction h xs address read s .answer .error ≡ 5
+    → (knownOf h address .«is_listed» ≡ true) × (isActive (h .clock) (request s .ak) (knownOf h address .entry .keys) ≡ true) × (requestHolds read s ≡ false)
+sent-digest-only h xs address read s code ten five =
+    let k = knownOf h address in
+    let a = found xs s .held in
+    let is : reaction h xs address read s .answer ≡ keyAnswer (h .clock) k a (requestHolds read s) (request s) =
+    ap (λ (w : Reaction). w .answer) (react-key h k a (requestHolds read s) (request s) (ne-eqb (request s .code) 4 (λ q. omega (arith, q, code))) (eq-eqb (request s .code) 7 code)) in
+    error-5 (h .clock) k a (requestHolds read s) (request s) (ap (λ (g : Fields). g .code) (sym is) ∙ ten) (ap (λ (g : Fields). g .error) (sym is) ∙ five)

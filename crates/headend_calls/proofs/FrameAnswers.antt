@@ -21,7 +21,8 @@ use Rattle.message_rules.specs.declared.fields.Receiver.the-variants.{HeadEnd a
 use Rattle.message_rules.specs.Fields.{noFields}
 use Rattle.message_rules.specs.Messages.{codeOf}
 use Rattle.message_rules.specs.Reading.{readOf}
-use Rattle.message_rules.specs.Writing.{message, messageOf, noDigest}
+use Rattle.message_rules.specs.Writing.{message, messageOf}
+use Rattle.message_digest.specs.Digest.{messageKeyFits, signedOf}
 use Rattle.key_records.specs.Records.{none, firstOf, lookupOf}
 use Rattle.headend_state.specs.declared.state.HeadEnd.{HeadEnd}
 use Rattle.headend_state.specs.declared.entries.Known.{Known}
@@ -32,11 +33,11 @@ use Rattle.headend_frames.specs.FrameQuestions.{withCounts, countedBy, openAnsw
 use Rattle.headend_frames.specs.Frames.{invalidFields, invalidOctets, openedFor, openedWith}
 use Rattle.headend_answers.specs.AnswerFields.{reject, replyAnswer, keyReply}
 use Rattle.headend_answers.specs.Answers.{keysAfter, keyAnswer, requestAnswer, requestReaction, reactionOf}
-use Rattle.headend_steps.specs.Receive.{answerOctets, receiveAnswer, writtenFor, receiveCalled, receiveWritten}
+use Rattle.headend_steps.specs.Receive.{answerOctets, receiveAnswer, writtenFor, receiveCalled, receiveWritten, keysFit}
 use Rattle.headend_limits.proofs.LimitsLaws.{head-facts}
 use Rattle.headend_steps.proofs.AnswerFits.{Replied, active-small, by-key-answer}
 use Rattle.headend_steps.proofs.AnswersRead.{ShapedRecord, readBack, key-reply-read}
-use Rattle.headend_calls.specs.Calls.{receiveOctets}
+use Rattle.headend_calls.specs.Calls.{receiveOctets, requestHolds}
 use Rattle.headend_frames.specs.FrameCalls.{openOf}
 use Rattle.headend_calls.specs.Within.{Within}
 use Rattle.headend_calls.proofs.AnswersSent.{request, found, reaction, Takes, takes-asked, receive-done}
@@ -75,51 +76,51 @@ counted-same n h = go (eqb n 0) (eqb n 10 || eqb n 13)
     go false true = same-counts h (h .taken) (oneMore (h .refused))
     go false false = same-counts h (h .taken) (h .refused)
 
-module _ (h : HeadEnd) (xs : List Assoc) (direction address said : ℕ) (number : TekNumber) (tek vector lent : ℕ) where
+module _ (h : HeadEnd) (xs : List Assoc) (direction address said : ℕ) (number : TekNumber) (write : List ℕ) (tek vector lent : ℕ) where
   abbrev looked : Found
   looked = lookupOf (OfSaid said) xs
 
   abbrev answered : Answer
-  answered = openAnswer h (firstOf (outOfLimits h) xs) (length xs) looked direction address said number tek vector lent
+  answered = openAnswer h (firstOf (outOfLimits h) xs) (length xs) looked direction address said number (messageKeyFits write) tek vector lent
 
-  pub open-same : SameButCounts h (openOf h xs direction address said number tek vector lent .state)
+  pub open-same : SameButCounts h (openOf h xs direction address said number write tek vector lent .state)
   unfolding openedWith
   open-same = go answered
     where
-      go : (a : Answer) → SameButCounts h (openedFor a h looked address said number .state)
+      go : (a : Answer) → SameButCounts h (openedFor a h looked address said number write .state)
       go Done = counted-same 0 h
       go (Refused r) = counted-same (answerNumber (Refused r)) h
 
-  pub open-within : Within h xs → Within (openOf h xs direction address said number tek vector lent .state) xs
-  open-within w = same-within h (openOf h xs direction address said number tek vector lent .state) open-same xs w
+  pub open-within : Within h xs → Within (openOf h xs direction address said number write tek vector lent .state) xs
+  open-within w = same-within h (openOf h xs direction address said number write tek vector lent .state) open-same xs w
 
   -- What it puts out is a TEK Invalid or nothing
-  invalid-code : (k : Known) → codeOf (invalidOctets h k said) ≡ 8 → ⊥
-  unfolding invalidOctets messageOf message
+  invalid-code : (k : Known) → codeOf (invalidOctets h k said write) ≡ 8 → ⊥
+  unfolding invalidOctets signedOf messageOf message
   invalid-code k = go (ltb (h .clock) (k .entry .keys .newer))
     where
-      go : (b : Bool) → codeOf (cond b (messageOf (invalidFields k said) [] noDigest) []) ≡ 8 → ⊥
+      go : (b : Bool) → codeOf (cond b (signedOf (invalidFields k said) [] write) []) ≡ 8 → ⊥
       go true e = omega (arith, e)
       go false e = omega (arith, e)
 
-  pub invalid-not-reply : codeOf (openOf h xs direction address said number tek vector lent .invalid) ≡ 8 → ⊥
+  pub invalid-not-reply : codeOf (openOf h xs direction address said number write tek vector lent .invalid) ≡ 8 → ⊥
   unfolding openedWith
   invalid-not-reply = go answered
     where
-      by : (b : Bool) → codeOf (cond b (invalidOctets h (knownOf h address) said) []) ≡ 8 → ⊥
+      by : (b : Bool) → codeOf (cond b (invalidOctets h (knownOf h address) said write) []) ≡ 8 → ⊥
       by true e = invalid-code (knownOf h address) e
       by false e = omega (arith, e)
 
-      go : (a : Answer) → codeOf (openedFor a h looked address said number .invalid) ≡ 8 → ⊥
+      go : (a : Answer) → codeOf (openedFor a h looked address said number write .invalid) ≡ 8 → ⊥
       go Done e = omega (arith, e)
       go (Refused r) e = by (eqb (answerNumber (Refused r)) 13) e
 
 -- ---- what `receive` writes: the first octet is the answer's code
-octets-code : (f : Fields) (key : List ℕ) → codeOf (answerOctets f key) ≡ f .code
-unfolding answerOctets messageOf message
-octets-code f key = go (eqb (f .code) 0) refl
+octets-code : (f : Fields) (auth write : List ℕ) → codeOf (answerOctets f auth write) ≡ f .code
+unfolding answerOctets signedOf messageOf message
+octets-code f auth write = go (eqb (f .code) 0) refl
   where
-    go : (b : Bool) → eqb (f .code) 0 ≡ b → codeOf (cond b [] (messageOf f key noDigest)) ≡ f .code
+    go : (b : Bool) → eqb (f .code) 0 ≡ b → codeOf (cond b [] (signedOf f auth write)) ≡ f .code
     go true e = sym (eqb-true (f .code) 0 e)
     go false e = refl
 
@@ -159,59 +160,59 @@ module _ (h : HeadEnd) (k : Known) (a : Assoc) (digest : Bool) (f : Fields) wher
       go false true q e = (eqb-true (f .code) 7 q, key-eight e)
       go false false q e = absurd (omega (arith, e))
 
-module _ (h : HeadEnd) (xs : List Assoc) (address : ℕ) (digest : Bool) (s key : List ℕ) (lent : ℕ) where
+module _ (h : HeadEnd) (xs : List Assoc) (address : ℕ) (read write s auth : List ℕ) (lent : ℕ) where
   abbrev asked : Answer
-  asked = receiveAnswer h (firstOf (outOfLimits h) xs) (length xs) (found xs s) address digest (readOf AtHeadEnd s) (length key) lent
+  asked = receiveAnswer h (firstOf (outOfLimits h) xs) (length xs) (found xs s) address (requestHolds read s) (keysFit read write) (readOf AtHeadEnd s) (length auth) lent
 
-  written-done : codeOf (receiveOctets h xs address digest s key lent) ≡ 8 → asked ≡ Done
+  written-done : codeOf (receiveOctets h xs address read write s auth lent) ≡ 8 → asked ≡ Done
   unfolding receiveWritten
   written-done = go asked
     where
-      go : (a : Answer) → codeOf (writtenFor a (reaction h xs address digest s) key) ≡ 8 → a ≡ Done
+      go : (a : Answer) → codeOf (writtenFor a (reaction h xs address read s) auth write) ≡ 8 → a ≡ Done
       go Done e = refl
       go (Refused r) e = absurd (omega (arith, e))
 
   -- Where its octets begin with 8 the message is taken
-  pub up-taken : codeOf (receiveOctets h xs address digest s key lent) ≡ 8 → Takes h xs address digest s key lent
+  pub up-taken : codeOf (receiveOctets h xs address read write s auth lent) ≡ 8 → Takes h xs address read write s auth lent
   unfolding receiveCalled
   up-taken e = rw (written-done e)
 
   -- a Key Request, all of whose questions are met
-  granted : codeOf (receiveOctets h xs address digest s key lent) ≡ 8
-      → (request s .code ≡ 7) × Replied (h .clock) (knownOf h address) (found xs s .held) digest (request s)
+  granted : codeOf (receiveOctets h xs address read write s auth lent) ≡ 8
+      → (request s .code ≡ 7) × Replied (h .clock) (knownOf h address) (found xs s .held) (requestHolds read s) (request s)
   granted e =
-      let f = reaction h xs address digest s .answer in
-      let is : f .code ≡ 8 = sym (octets-code f key) ∙ sym (ap codeOf (receive-done h xs address digest s key lent (up-taken e) .octets)) ∙ e in
-      reaction-eight h (knownOf h address) (found xs s .held) digest (request s) is
+      let f = reaction h xs address read s .answer in
+      let is : f .code ≡ 8 = sym (octets-code f auth write) ∙ sym (ap codeOf (receive-done h xs address read write s auth lent (up-taken e) .octets)) ∙ e in
+      reaction-eight h (knownOf h address) (found xs s .held) (requestHolds read s) (request s) is
 
   -- Octets that begin with 8 are a Key Reply of the SAID's record
-  pub up-reply : codeOf (receiveOctets h xs address digest s key lent) ≡ 8 → KeyReplied h xs address digest s key lent (getD xs (placeOf xs s) none)
+  pub up-reply : codeOf (receiveOctets h xs address read write s auth lent) ≡ 8 → KeyReplied h xs address read write s auth lent (getD xs (placeOf xs s) none)
   up-reply e =
       let g = granted e in
       let w = g .1 in
-      sent-key-reply h xs address digest s key lent (up-taken e) (g .0) (w .listed) (w .active) (w .holds) (w .named)
+      sent-key-reply h xs address read write s auth lent (up-taken e) (g .0) (w .listed) (w .active) (w .holds) (w .named)
 
-  module _ (a : Assoc) (r : KeyReplied h xs address digest s key lent a) where
-    reply-code : codeOf (receiveOctets h xs address digest s key lent) ≡ 8
-    reply-code = ap codeOf (r .sent .octets) ∙ octets-code (keyReply (h .clock) a (request s)) key
+  module _ (a : Assoc) (r : KeyReplied h xs address read write s auth lent a) where
+    reply-code : codeOf (receiveOctets h xs address read write s auth lent) ≡ 8
+    reply-code = ap codeOf (r .sent .octets) ∙ octets-code (keyReply (h .clock) a (request s)) auth write
 
     -- A Key Reply answers a message that is taken, and the modem reads its fields, whatever padding follows
-    pub reply-taken : Takes h xs address digest s key lent
+    pub reply-taken : Takes h xs address read write s auth lent
     reply-taken = up-taken reply-code
 
     pub reply-read-padded : ShapedRecord a → (padding : List ℕ)
-        → readOf Modem (receiveOctets h xs address digest s key lent ++ padding) ≡ readBack (keyReply (h .clock) a (request s)) key
+        → readOf Modem (receiveOctets h xs address read write s auth lent ++ padding) ≡ readBack (keyReply (h .clock) a (request s)) auth write
     reply-read-padded shaped padding =
-        let q = takes-asked h xs address digest s key lent reply-taken in
+        let q = takes-asked h xs address read write s auth lent reply-taken in
         let i = head-facts h (q .fits) in
         let low = active-small (h .clock) (request s .ak) (knownOf h address .entry .keys) (granted reply-code .1 .active) in
         ap (λ (o : List ℕ). readOf Modem (o ++ padding)) (r .sent .octets)
-        ∙ key-reply-read key padding (halfIn h) (h .clock) a (request s) shaped (r .limits) (omega (arith, i .half-low)) (r .short) low (leb-true (request s .said) 16383 (q .said-fits))
+        ∙ key-reply-read auth write padding (halfIn h) (h .clock) a (request s) shaped (r .limits) (omega (arith, i .half-low)) (r .short) low (leb-true (request s .said) 16383 (q .said-fits))
 
     pub reply-read : ShapedRecord a
-        → (readOf Modem (receiveOctets h xs address digest s key lent) .answer ≡ Done)
-        × (readOf Modem (receiveOctets h xs address digest s key lent) .fields ≡ keyReply (h .clock) a (request s))
+        → (readOf Modem (receiveOctets h xs address read write s auth lent) .answer ≡ Done)
+        × (readOf Modem (receiveOctets h xs address read write s auth lent) .fields ≡ keyReply (h .clock) a (request s))
     reply-read shaped =
-        let whole : readOf Modem (receiveOctets h xs address digest s key lent) ≡ readBack (keyReply (h .clock) a (request s)) key =
-        ap (readOf Modem) (sym (append-nil (receiveOctets h xs address digest s key lent))) ∙ reply-read-padded shaped [] in
+        let whole : readOf Modem (receiveOctets h xs address read write s auth lent) ≡ readBack (keyReply (h .clock) a (request s)) auth write =
+        ap (readOf Modem) (sym (append-nil (receiveOctets h xs address read write s auth lent))) ∙ reply-read-padded shaped [] in
         (ap (λ (g : Reading). g .answer) whole, ap (λ (g : Reading). g .fields) whole)

@@ -7,7 +7,7 @@ use Prim.Native.Nat.{ℕ, _≤_, _<_}
 use native.Mathlib.Omega.{arith}
 use lib.Dec.{leb, ltb}
 use lib.ListN.{length, getD}
-use borrow.Author.Tests.{lt-ltb, le-ltb, le-leb, ltb-true, leb-true, eqb-true}
+use borrow.Author.Tests.{lt-ltb, le-ltb, le-leb, ltb-true, leb-true, eqb-true, eq-eqb}
 use Rattle.key_traffic.specs.declared.numbers.TekNumber.{TekNumber}
 use Rattle.key_traffic.specs.declared.traffic.TrafficKey.{TrafficKey}
 use Rattle.questions.specs.declared.refusal.Answer.{Answer}
@@ -155,10 +155,10 @@ module _ (clock : ℕ) (number : TekNumber) (w : ℕ) (older newer : TrafficKey)
   unfolding openingOf
   by-newer e q = rw (e, q)
 
-module _ (h : HeadEnd) (xs : List Assoc) (address said : ℕ) (number : TekNumber) (tek vector lent : ℕ) where
+module _ (h : HeadEnd) (xs : List Assoc) (address said : ℕ) (number : TekNumber) (write : List ℕ) (tek vector lent : ℕ) where
   -- A frame is opened by a key of the SAID's record that has its number and counts
   pub record OpenedBy : Type 0 where
-    pub done : openOf h xs 0 address said number tek vector lent .answer ≡ Done
+    pub done : openOf h xs 0 address said number write tek vector lent .answer ≡ Done
     pub place : ℕ
     pub first : place ≡ firstOf (OfSaid said) xs
     pub inside : place < h .used
@@ -167,13 +167,13 @@ module _ (h : HeadEnd) (xs : List Assoc) (address said : ℕ) (number : TekNumbe
     pub held : (key ≡ getD xs place none .older) ⊎ (key ≡ getD xs place none .newer)
     pub number-is : key .number ≡ number
     pub counts : h .clock < key .deadline
-    pub out : openOf h xs 0 address said number tek vector lent .out ≡ keyOut (widthOf (getD xs place none .suite)) key
+    pub out : openOf h xs 0 address said number write tek vector lent .out ≡ keyOut (widthOf (getD xs place none .suite)) key
 
   -- Refused with 10 or 13, or opened
   abbrev pub OpenCases : Type 0
   OpenCases =
-      (answerNumber (openOf h xs 0 address said number tek vector lent .answer) ≡ 10)
-      ⊎ ((answerNumber (openOf h xs 0 address said number tek vector lent .answer) ≡ 13) ⊎ OpenedBy)
+      (answerNumber (openOf h xs 0 address said number write tek vector lent .answer) ≡ 10)
+      ⊎ ((answerNumber (openOf h xs 0 address said number write tek vector lent .answer) ≡ 13) ⊎ OpenedBy)
 
   module _ (w : Within h xs) (each : Recorded h xs) where
     abbrev looked : Found
@@ -202,11 +202,11 @@ module _ (h : HeadEnd) (xs : List Assoc) (address said : ℕ) (number : TekNumbe
     abbrev byNewer : Bool
     byNewer = serves (h .clock) number (looked .held .newer)
 
-    open-is : addressFits address ≡ true → said ≤ 16383 → tekInRange number ≡ true → 16 ≤ tek → 16 ≤ vector → 40 ≤ lent
-        → openOf h xs 0 address said number tek vector lent
-        ≡ openedFor (cond ours (cond (byOlder || byNewer) Done (Refused NoKeyForFrame)) (Refused UnknownSaid)) h looked address said number
+    open-is : addressFits address ≡ true → said ≤ 16383 → tekInRange number ≡ true → length write ≡ 20 → 16 ≤ tek → 16 ≤ vector → 40 ≤ lent
+        → openOf h xs 0 address said number write tek vector lent
+        ≡ openedFor (cond ours (cond (byOlder || byNewer) Done (Refused NoKeyForFrame)) (Refused UnknownSaid)) h looked address said number write
     unfolding openedWith openAnswer frameFits
-    open-is fits small range wide long room =
+    open-is fits small range key-wide wide long room =
         rw (
           held-suits,
           opens-held (h .clock) number (looked .held .older) (looked .held .newer),
@@ -215,15 +215,16 @@ module _ (h : HeadEnd) (xs : List Assoc) (address said : ℕ) (number : TekNumbe
           fits,
           le-leb said 16383 small,
           range,
+          eq-eqb (length write) 20 key-wide,
           le-leb (h .used) (length xs) (w .lent),
           le-leb 16 tek wide,
           le-leb 16 vector long,
           le-leb 40 lent room,
         )
 
-    opened : isOwn (knownOf h address) said ≡ true → openOf h xs 0 address said number tek vector lent .answer ≡ Done
+    opened : isOwn (knownOf h address) said ≡ true → openOf h xs 0 address said number write tek vector lent .answer ≡ Done
         → (of : Assoc → TrafficKey) → ((a : Assoc) → (of a ≡ a .older) ⊎ (of a ≡ a .newer)) → serves (h .clock) number (of (looked .held)) ≡ true
-        → openOf h xs 0 address said number tek vector lent .out ≡ keyOut (widthOf (looked .held .suite)) (of (looked .held))
+        → openOf h xs 0 address said number write tek vector lent .out ≡ keyOut (widthOf (looked .held .suite)) (of (looked .held))
         → OpenedBy
     opened own done of one counts out =
         let p = OfSaid said in
@@ -244,12 +245,12 @@ module _ (h : HeadEnd) (xs : List Assoc) (address said : ℕ) (number : TekNumbe
           out = out ∙ ap (λ (a : Assoc). keyOut (widthOf (a .suite)) (of a)) same;
         }
 
-    -- Under these limits an opening in its direction, of fields within their limits and slices long enough, meets neither 1 nor 2
-    pub open-cases : addressFits address ≡ true → said ≤ 16383 → tekInRange number ≡ true → 16 ≤ tek → 16 ≤ vector → 40 ≤ lent → OpenCases
-    open-cases fits small range wide long room = go ours byOlder byNewer refl refl refl (open-is fits small range wide long room)
+    -- Under these limits an opening in its direction, of fields within their limits, with a key of its length and slices long enough, meets neither 1 nor 2
+    pub open-cases : addressFits address ≡ true → said ≤ 16383 → tekInRange number ≡ true → length write ≡ 20 → 16 ≤ tek → 16 ≤ vector → 40 ≤ lent → OpenCases
+    open-cases fits small range key-wide wide long room = go ours byOlder byNewer refl refl refl (open-is fits small range key-wide wide long room)
       where
         go : (a b c : Bool) → isOwn (knownOf h address) said ≡ a → serves (h .clock) number (looked .held .older) ≡ b → serves (h .clock) number (looked .held .newer) ≡ c
-            → openOf h xs 0 address said number tek vector lent ≡ openedFor (cond a (cond (b || c) Done (Refused NoKeyForFrame)) (Refused UnknownSaid)) h looked address said number
+            → openOf h xs 0 address said number write tek vector lent ≡ openedFor (cond a (cond (b || c) Done (Refused NoKeyForFrame)) (Refused UnknownSaid)) h looked address said number write
             → OpenCases
         go false b c e₁ e₂ e₃ is = inl (ap (λ (o : HeadOpened). answerNumber (o .answer)) is)
         go true false false e₁ e₂ e₃ is = inr (inl (ap (λ (o : HeadOpened). answerNumber (o .answer)) is))

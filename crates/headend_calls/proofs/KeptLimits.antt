@@ -32,11 +32,11 @@ use Rattle.headend_limits.specs.Search.{halfIn, outOfLimits, oneOf, ofRequest}
 use Rattle.headend_steps.specs.Listing.{listAnswer, listFor, listCalled, grown}
 use Rattle.headend_steps.specs.Clock.{clockAnswer, clockFor, clockCalled}
 use Rattle.headend_answers.specs.Answers.{withKeys, keysAfter, stateAfter, requestState, requestReaction, keyAnswer, reactionOf}
-use Rattle.headend_steps.specs.Receive.{receiveAnswer, calledFor, reactionTo, receiveCalled}
+use Rattle.headend_steps.specs.Receive.{receiveAnswer, calledFor, reactionTo, receiveCalled, keysFit}
 use Rattle.headend_limits.proofs.ListingLaws.{listing-facts}
 use Rattle.headend_limits.proofs.LimitsLaws.{granted-fits, entry-facts, head-facts, known-place, known-in}
 use Rattle.headend_steps.proofs.AskedLaws.{ListAsked, list-asked, clock-asked}
-use Rattle.headend_calls.specs.Calls.{recordsFor, newFor, newOf, listOf, listRecords, clockOf, clockRecords, receiveOf}
+use Rattle.headend_calls.specs.Calls.{recordsFor, newFor, newOf, listOf, listRecords, clockOf, clockRecords, receiveOf, requestHolds}
 use Rattle.headend_calls.specs.Within.{Within}
 use Rattle.headend_calls.proofs.WithinLaws.{within-fits, by-records}
 use Rattle.headend_calls.proofs.EntriesKept.{none-fit, entry-by, later-entries, rekeyed-fits, grown-fits}
@@ -166,24 +166,24 @@ module _ (h : HeadEnd) (xs : List Assoc) (w : Within h xs) where
       go true true e = w
       go true false e = granted-within address e
 
-  module _ (address : ℕ) (digest : Bool) (s key : List ℕ) (lent : ℕ) where
+  module _ (address : ℕ) (read write s auth : List ℕ) (lent : ℕ) where
     abbrev found : Found
     found = lookupOf (ofRequest (readOf AtHeadEnd s)) xs
 
-    reaction-within : Within (reactionTo h found address digest (readOf AtHeadEnd s) .state) xs
+    reaction-within : Within (reactionTo h found address (requestHolds read s) (readOf AtHeadEnd s) .state) xs
     unfolding reactionOf
     reaction-within = go (eqb (readOf AtHeadEnd s .fields .code) 4) (eqb (readOf AtHeadEnd s .fields .code) 7)
       where
         go : (a b : Bool)
-            → Within (cond a (requestReaction h (knownOf h address) (readOf AtHeadEnd s .fields .identifier)) (cond b (record { state = h; answer = keyAnswer (h .clock) (knownOf h address) (found .held) digest (readOf AtHeadEnd s .fields) }) (record { state = h; answer = noFields })) .state) xs
+            → Within (cond a (requestReaction h (knownOf h address) (readOf AtHeadEnd s .fields .identifier)) (cond b (record { state = h; answer = keyAnswer (h .clock) (knownOf h address) (found .held) (requestHolds read s) (readOf AtHeadEnd s .fields) }) (record { state = h; answer = noFields })) .state) xs
         go true b = request-within address
         go false true = w
         go false false = w
 
-    pub receive-within : Within (receiveOf h xs address digest s key lent .state) xs
+    pub receive-within : Within (receiveOf h xs address read write s auth lent .state) xs
     unfolding receiveCalled
-    receive-within = go (receiveAnswer h (firstOf (outOfLimits h) xs) (length xs) found address digest (readOf AtHeadEnd s) (length key) lent)
+    receive-within = go (receiveAnswer h (firstOf (outOfLimits h) xs) (length xs) found address (requestHolds read s) (keysFit read write) (readOf AtHeadEnd s) (length auth) lent)
       where
-        go : (a : Answer) → Within (calledFor a h (reactionTo h found address digest (readOf AtHeadEnd s)) key .state) xs
+        go : (a : Answer) → Within (calledFor a h (reactionTo h found address (requestHolds read s) (readOf AtHeadEnd s)) auth write .state) xs
         go Done = reaction-within
         go (Refused r) = w

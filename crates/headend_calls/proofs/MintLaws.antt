@@ -106,10 +106,10 @@ module _ {half : ℕ} {h : HeadEnd} {xs : List Assoc} {ls : List Generations} wh
       }
 
   -- no message changes what is shown
-  pub receive-shows : (address : ℕ) (digest : Bool) (s key : List ℕ) (lent : ℕ)
-      → Shows half h xs ls → Shows half (receiveOf h xs address digest s key lent .state) xs ls
-  receive-shows address digest s key lent w =
-      shows-same (receiveOf h xs address digest s key lent .state) (receive-base h xs address digest s key lent) w
+  pub receive-shows : (address : ℕ) (read write s auth : List ℕ) (lent : ℕ)
+      → Shows half h xs ls → Shows half (receiveOf h xs address read write s auth lent .state) xs ls
+  receive-shows address read write s auth lent w =
+      shows-same (receiveOf h xs address read write s auth lent .state) (receive-base h xs address read write s auth lent) w
 
   module _ (address allowed : ℕ) (l : Listing) (m : List ℕ) (w : Shows half h xs ls) where
     -- an accepted listing adds the lines that the rule mints

@@ -82,7 +82,7 @@ module _ (h : HeadEnd) (xs : List Assoc) (t : ℕ) (m : List ℕ) (w : Within h 
       go (Refused r) e = near
 
 -- ---- receive: the records are as they were
-pub receive-near : (h : HeadEnd) (xs : List Assoc) (address : ℕ) (digest : Bool) (s key : List ℕ) (lent : ℕ) → AllNear h xs
-    → AllNear (receiveOf h xs address digest s key lent .state) xs
-receive-near h xs address digest s key lent near =
-    base-near h (receiveOf h xs address digest s key lent .state) xs (receive-base h xs address digest s key lent) near
+pub receive-near : (h : HeadEnd) (xs : List Assoc) (address : ℕ) (read write s auth : List ℕ) (lent : ℕ) → AllNear h xs
+    → AllNear (receiveOf h xs address read write s auth lent .state) xs
+receive-near h xs address read write s auth lent near =
+    base-near h (receiveOf h xs address read write s auth lent .state) xs (receive-base h xs address read write s auth lent) near

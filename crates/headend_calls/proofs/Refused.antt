@@ -19,8 +19,8 @@ use Rattle.headend_answers.specs.declared.answers.Reaction.{Reaction}
 use Rattle.headend_limits.specs.Search.{halfIn, outOfLimits, oneOf, ofRequest}
 use Rattle.headend_steps.specs.Listing.{listAnswer, listFor, listCalled}
 use Rattle.headend_steps.specs.Clock.{clockAnswer, clockFor, clockCalled}
-use Rattle.headend_steps.specs.Receive.{receiveAnswer, calledFor, writtenFor, reactionTo, receiveCalled, receiveWritten}
-use Rattle.headend_calls.specs.Calls.{recordsFor, listOf, listRecords, clockOf, clockRecords, receiveOf, receiveOctets}
+use Rattle.headend_steps.specs.Receive.{receiveAnswer, calledFor, writtenFor, reactionTo, receiveCalled, receiveWritten, keysFit}
+use Rattle.headend_calls.specs.Calls.{recordsFor, listOf, listRecords, clockOf, clockRecords, receiveOf, receiveOctets, requestHolds}
 
 done-refused : (r : Refusal) → Done ≡ Refused r → ⊥
 done-refused r e = let z : _≡_ {A = ℕ} 0 1 = cc in omega arith
@@ -58,18 +58,18 @@ module _ (h : HeadEnd) (xs : List Assoc) (r : Refusal) where
         clock-same (clockAnswer h t (firstOf (outOfLimits h) xs) (length xs) (length m)) (rolledTo (halfIn h) t m 0 (h .used) xs) e
 
   -- ---- receive; it changes no record in any case
-  module _ (address : ℕ) (digest : Bool) (s key : List ℕ) (lent : ℕ) where
-    receive-same : (a : Answer) (w : Reaction) → calledFor a h w key .answer ≡ Refused r
-        → (calledFor a h w key .state ≡ h) × (writtenFor a w key ≡ []) × (calledFor a h w key .count ≡ 0)
+  module _ (address : ℕ) (read write s auth : List ℕ) (lent : ℕ) where
+    receive-same : (a : Answer) (w : Reaction) → calledFor a h w auth write .answer ≡ Refused r
+        → (calledFor a h w auth write .state ≡ h) × (writtenFor a w auth write ≡ []) × (calledFor a h w auth write .count ≡ 0)
     receive-same Done w e = absurd (done-refused r e)
     receive-same (Refused n) w e = (refl, refl, refl)
 
-    pub receive-refused-same : receiveOf h xs address digest s key lent .answer ≡ Refused r
-        → (receiveOf h xs address digest s key lent .state ≡ h)
-        × (receiveOctets h xs address digest s key lent ≡ [])
-        × (receiveOf h xs address digest s key lent .count ≡ 0)
+    pub receive-refused-same : receiveOf h xs address read write s auth lent .answer ≡ Refused r
+        → (receiveOf h xs address read write s auth lent .state ≡ h)
+        × (receiveOctets h xs address read write s auth lent ≡ [])
+        × (receiveOf h xs address read write s auth lent .count ≡ 0)
     unfolding receiveCalled receiveWritten
     receive-refused-same e =
         let found = lookupOf (ofRequest (readOf AtHeadEnd s)) xs in
-        receive-same (receiveAnswer h (firstOf (outOfLimits h) xs) (length xs) found address digest (readOf AtHeadEnd s) (length key) lent)
-        (reactionTo h found address digest (readOf AtHeadEnd s)) e
+        receive-same (receiveAnswer h (firstOf (outOfLimits h) xs) (length xs) found address (requestHolds read s) (keysFit read write) (readOf AtHeadEnd s) (length auth) lent)
+        (reactionTo h found address (requestHolds read s) (readOf AtHeadEnd s)) e

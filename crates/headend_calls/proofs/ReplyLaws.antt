@@ -16,7 +16,8 @@ use Rattle.message_rules.specs.declared.fields.Reading.{Reading}
 use Rattle.message_rules.specs.declared.fields.Receiver.the-variants.{HeadEnd as AtHeadEnd}
 use Rattle.message_rules.specs.Reading.{readOf}
 use Rattle.message_rules.specs.Ranges.{requiredOf}
-use Rattle.message_rules.specs.Writing.{itemsOfType, itemsOfTypes, itemsOf, message, messageOf, noDigest}
+use Rattle.message_rules.specs.Writing.{itemsOfType, itemsOfTypes, itemsOf, message, messageOf}
+use Rattle.message_digest.specs.Digest.{bare, signedOf}
 use Rattle.key_records.specs.Records.{firstOf, lookupOf}
 use Rattle.headend_state.specs.declared.state.HeadEnd.{HeadEnd}
 use Rattle.headend_state.specs.declared.entries.Known.{Known}
@@ -25,10 +26,10 @@ use Rattle.headend_state.specs.Entries.{knownOf}
 use Rattle.headend_limits.specs.Search.{outOfLimits, ofRequest}
 use Rattle.headend_answers.specs.AnswerFields.{replyAnswer, keyReply, reject}
 use Rattle.headend_answers.specs.Answers.{keyAnswer, keysAfter, requestAnswer, reactionOf}
-use Rattle.headend_steps.specs.Receive.{receiveAnswer, answerOctets, calledFor, writtenFor, reactionTo, receiveCalled, receiveWritten}
+use Rattle.headend_steps.specs.Receive.{receiveAnswer, answerOctets, calledFor, writtenFor, reactionTo, receiveCalled, receiveWritten, keysFit}
 use Rattle.headend_steps.proofs.AskedLaws.{receive-asked}
 use Rattle.headend_steps.proofs.AnswerFits.{Replied, by-key-answer, reply-is, suits-reply}
-use Rattle.headend_calls.specs.Calls.{receiveOf, receiveOctets}
+use Rattle.headend_calls.specs.Calls.{receiveOf, receiveOctets, requestHolds}
 use Rattle.headend_calls.proofs.StateLaws.{done-apart, byCode}
 
 -- ---- a Key Reply is an answer to a Key Request of which all is met
@@ -70,12 +71,12 @@ module _ (h : HeadEnd) (k : Known) (a : Assoc) (digest : Bool) (f : Fields) wher
       go false false p q z = absurd (omega (arith, z))
 
 -- ---- its octets carry no AUTH-Key
-pub key-free : (clock : ℕ) (a : Assoc) (f : Fields) (key₁ key₂ : List ℕ) → messageOf (keyReply clock a f) key₁ noDigest ≡ messageOf (keyReply clock a f) key₂ noDigest
-unfolding messageOf itemsOf itemsOfTypes itemsOfType requiredOf
-key-free clock a f key₁ key₂ = refl
+pub key-free : (clock : ℕ) (a : Assoc) (f : Fields) (key₁ key₂ write : List ℕ) → signedOf (keyReply clock a f) key₁ write ≡ signedOf (keyReply clock a f) key₂ write
+unfolding signedOf bare messageOf itemsOf itemsOfTypes itemsOfType requiredOf
+key-free clock a f key₁ key₂ write = refl
 
 -- ---- a message that is taken, with a Key Reply as answer
-module _ (h : HeadEnd) (xs : List Assoc) (address : ℕ) (digest : Bool) (s : List ℕ) where
+module _ (h : HeadEnd) (xs : List Assoc) (address : ℕ) (read s : List ℕ) where
   abbrev reading : Reading
   reading = readOf AtHeadEnd s
 
@@ -83,21 +84,21 @@ module _ (h : HeadEnd) (xs : List Assoc) (address : ℕ) (digest : Bool) (s : Li
   found = lookupOf (ofRequest reading) xs
 
   abbrev reaction : Reaction
-  reaction = reactionTo h found address digest reading
+  reaction = reactionTo h found address (requestHolds read s) reading
 
   -- The code of the answer, where the message is taken
   abbrev pub answerCode : ℕ
   answerCode = reaction .answer .code
 
-  module _ (key : List ℕ) (lent : ℕ) where
+  module _ (write auth : List ℕ) (lent : ℕ) where
     abbrev asked : Answer
-    asked = receiveAnswer h (firstOf (outOfLimits h) xs) (length xs) found address digest reading (length key) lent
+    asked = receiveAnswer h (firstOf (outOfLimits h) xs) (length xs) found address (requestHolds read s) (keysFit read write) reading (length auth) lent
 
-    all-met : receiveOf h xs address digest s key lent .answer ≡ Done → asked ≡ Done
+    all-met : receiveOf h xs address read write s auth lent .answer ≡ Done → asked ≡ Done
     unfolding receiveCalled
     all-met e = go asked e
       where
-        go : (a : Answer) → calledFor a h reaction key .answer ≡ Done → a ≡ Done
+        go : (a : Answer) → calledFor a h reaction auth write .answer ≡ Done → a ≡ Done
         go Done q = refl
         go (Refused r) q = done-apart r q
 
@@ -105,35 +106,35 @@ module _ (h : HeadEnd) (xs : List Assoc) (address : ℕ) (digest : Bool) (s : Li
     pub record Replies : Type 0 where
       pub place : found .at < h .used
       pub all-lent : h .used ≤ length xs
-      pub written : receiveOctets h xs address digest s key lent ≡ messageOf (keyReply (h .clock) (found .held) (reading .fields)) key noDigest
+      pub written : receiveOctets h xs address read write s auth lent ≡ signedOf (keyReply (h .clock) (found .held) (reading .fields)) auth write
 
-    pub replies : receiveOf h xs address digest s key lent .answer ≡ Done → answerCode ≡ 8 → Replies
+    pub replies : receiveOf h xs address read write s auth lent .answer ≡ Done → answerCode ≡ 8 → Replies
     unfolding receiveWritten answerOctets
     replies e c =
         let done = all-met e in
         let known = knownOf h address in
-        let q = receive-asked h (firstOf (outOfLimits h) xs) (length xs) found address digest reading (length key) lent done in
-        let r = reply-only h known (found .held) digest (reading .fields) c in
-        let in-use = suits-reply h (length xs) found known digest (reading .fields) (q .records-lent) (r .request) (r .replied) (q .record-suits) in
+        let q = receive-asked h (firstOf (outOfLimits h) xs) (length xs) found address (requestHolds read s) (keysFit read write) reading (length auth) lent done in
+        let r = reply-only h known (found .held) (requestHolds read s) (reading .fields) c in
+        let in-use = suits-reply h (length xs) found known (requestHolds read s) (reading .fields) (q .records-lent) (r .request) (r .replied) (q .record-suits) in
         record {
           place = in-use .0;
           all-lent = q .records-lent;
-          written = ap (λ (a : Answer). writtenFor a reaction key) done ∙ ap (λ (f : Fields). answerOctets f key) (r .answer-is);
+          written = ap (λ (a : Answer). writtenFor a reaction auth write) done ∙ ap (λ (f : Fields). answerOctets f auth write) (r .answer-is);
         }
 
     -- what was written tells it: octets that start with 8 are those of a message that was taken, with a Key Reply as answer
-    first-octet : (f : Fields) → getD (answerOctets f key) 0 0 ≡ 8 → f .code ≡ 8
-    unfolding answerOctets messageOf message
+    first-octet : (f : Fields) → getD (answerOctets f auth write) 0 0 ≡ 8 → f .code ≡ 8
+    unfolding answerOctets signedOf messageOf message
     first-octet f e = go (eqb (f .code) 0) e
       where
-        go : (b : Bool) → getD (cond b [] (messageOf f key noDigest)) 0 0 ≡ 8 → f .code ≡ 8
+        go : (b : Bool) → getD (cond b [] (signedOf f auth write)) 0 0 ≡ 8 → f .code ≡ 8
         go true q = absurd (omega (arith, q))
         go false q = q
 
-    pub reply-seen : getD (receiveOctets h xs address digest s key lent) 0 0 ≡ 8 → (receiveOf h xs address digest s key lent .answer ≡ Done) × (answerCode ≡ 8)
+    pub reply-seen : getD (receiveOctets h xs address read write s auth lent) 0 0 ≡ 8 → (receiveOf h xs address read write s auth lent .answer ≡ Done) × (answerCode ≡ 8)
     unfolding receiveCalled receiveWritten
     reply-seen e = go asked e
       where
-        go : (a : Answer) → getD (writtenFor a reaction key) 0 0 ≡ 8 → (calledFor a h reaction key .answer ≡ Done) × (reaction .answer .code ≡ 8)
+        go : (a : Answer) → getD (writtenFor a reaction auth write) 0 0 ≡ 8 → (calledFor a h reaction auth write .answer ≡ Done) × (reaction .answer .code ≡ 8)
         go Done q = (refl, first-octet (reaction .answer) q)
         go (Refused r) q = absurd (omega (arith, q))

@@ -27,8 +27,8 @@ use Rattle.headend_limits.specs.Search.{outOfLimits, oneOf, ofRequest}
 use Rattle.headend_steps.specs.Listing.{listAnswer, listFor, listCalled, grown}
 use Rattle.headend_steps.specs.Clock.{clockAnswer, clockFor, clockCalled}
 use Rattle.headend_answers.specs.Answers.{stateAfter, requestState, requestReaction, keyAnswer, reactionOf}
-use Rattle.headend_steps.specs.Receive.{receiveAnswer, reactionTo, calledFor, receiveCalled}
-use Rattle.headend_calls.specs.Calls.{listOf, clockOf, receiveOf}
+use Rattle.headend_steps.specs.Receive.{receiveAnswer, reactionTo, calledFor, receiveCalled, keysFit}
+use Rattle.headend_calls.specs.Calls.{listOf, clockOf, receiveOf, requestHolds}
 
 -- ---- answers
 pub done-apart : {A : Type 0} (r : Refusal) → Refused r ≡ Done → A
@@ -107,19 +107,19 @@ module _ (h : HeadEnd) (k : Known) (a : Assoc) (digest : Bool) (f : Fields) wher
       go false true = same-base h
       go false false = same-base h
 
-module _ (h : HeadEnd) (xs : List Assoc) (address : ℕ) (digest : Bool) (s key : List ℕ) (lent : ℕ) where
+module _ (h : HeadEnd) (xs : List Assoc) (address : ℕ) (read write s auth : List ℕ) (lent : ℕ) where
   abbrev reacted : Reaction
-  reacted = reactionTo h (lookupOf (ofRequest (readOf AtHeadEnd s)) xs) address digest (readOf AtHeadEnd s)
+  reacted = reactionTo h (lookupOf (ofRequest (readOf AtHeadEnd s)) xs) address (requestHolds read s) (readOf AtHeadEnd s)
 
   abbrev receiveAsked : Answer
   receiveAsked =
-      receiveAnswer h (firstOf (outOfLimits h) xs) (length xs) (lookupOf (ofRequest (readOf AtHeadEnd s)) xs) address digest (readOf AtHeadEnd s) (length key) lent
+      receiveAnswer h (firstOf (outOfLimits h) xs) (length xs) (lookupOf (ofRequest (readOf AtHeadEnd s)) xs) address (requestHolds read s) (keysFit read write) (readOf AtHeadEnd s) (length auth) lent
 
   -- no message changes the settings, the clock or the number of records in use
-  pub receive-base : SameBase h (receiveOf h xs address digest s key lent .state)
+  pub receive-base : SameBase h (receiveOf h xs address read write s auth lent .state)
   unfolding receiveCalled
   receive-base = go receiveAsked
     where
-      go : (a : Answer) → SameBase h (calledFor a h reacted key .state)
-      go Done = reaction-base h (knownOf h address) (lookupOf (ofRequest (readOf AtHeadEnd s)) xs .held) digest (readOf AtHeadEnd s .fields)
+      go : (a : Answer) → SameBase h (calledFor a h reacted auth write .state)
+      go Done = reaction-base h (knownOf h address) (lookupOf (ofRequest (readOf AtHeadEnd s)) xs .held) (requestHolds read s) (readOf AtHeadEnd s .fields)
       go (Refused r) = same-base h

@@ -22,7 +22,8 @@ use Rattle.headend_state.specs.State.{freshOf, answeredCall}
 use Rattle.headend_limits.specs.Search.{halfIn, outOfLimits, oneOf, ofRequest}
 use Rattle.headend_steps.specs.Listing.{listCalled}
 use Rattle.headend_steps.specs.Clock.{clockCalled}
-use Rattle.headend_steps.specs.Receive.{receiveCalled, receiveWritten}
+use Rattle.message_digest.specs.Digest.{digestHolds}
+use Rattle.headend_steps.specs.Receive.{keysFit, receiveCalled, receiveWritten}
 
 -- The records after a call that changes them; as they were where it is refused
 abbrev pub recordsFor : Answer → List Assoc → List Assoc → List Assoc
@@ -52,15 +53,21 @@ clockOf h xs t m = clockCalled h t (firstOf (outOfLimits h) xs) (length xs) (len
 abbrev pub clockRecords : HeadEnd → List Assoc → ℕ → List ℕ → List Assoc
 clockRecords h xs t m = recordsFor (clockOf h xs t m .answer) (rolledTo (halfIn h) t m 0 (h .used) xs) xs
 
--- ---- receive: the records are read and not changed
-abbrev pub receiveOf : HeadEnd → List Assoc → ℕ → Bool → List ℕ → List ℕ → ℕ → Called
-receiveOf h xs address digest s key lent =
-    receiveCalled h (firstOf (outOfLimits h) xs) (length xs) (lookupOf (ofRequest (readOf AtHeadEnd s)) xs) address digest (readOf AtHeadEnd s) key lent
+-- ---- receive: the records are read and not changed. `read` and `write` are the message keys, `auth` the AUTH-Key
+-- Whether its digest holds under the message key of what is read: error 5 rests on it
+abbrev pub requestHolds : List ℕ → List ℕ → Bool
+requestHolds read s = digestHolds read (readOf AtHeadEnd s .digest) s
+
+abbrev pub receiveOf : HeadEnd → List Assoc → ℕ → List ℕ → List ℕ → List ℕ → List ℕ → ℕ → Called
+receiveOf h xs address read write s auth lent =
+    receiveCalled h (firstOf (outOfLimits h) xs) (length xs) (lookupOf (ofRequest (readOf AtHeadEnd s)) xs) address (requestHolds read s) (keysFit read write)
+    (readOf AtHeadEnd s) auth write lent
 
 -- The octets that it writes at the front of the lent slice
-abbrev pub receiveOctets : HeadEnd → List Assoc → ℕ → Bool → List ℕ → List ℕ → ℕ → List ℕ
-receiveOctets h xs address digest s key lent =
-    receiveWritten h (firstOf (outOfLimits h) xs) (length xs) (lookupOf (ofRequest (readOf AtHeadEnd s)) xs) address digest (readOf AtHeadEnd s) key lent
+abbrev pub receiveOctets : HeadEnd → List Assoc → ℕ → List ℕ → List ℕ → List ℕ → List ℕ → ℕ → List ℕ
+receiveOctets h xs address read write s auth lent =
+    receiveWritten h (firstOf (outOfLimits h) xs) (length xs) (lookupOf (ofRequest (readOf AtHeadEnd s)) xs) address (requestHolds read s) (keysFit read write)
+    (readOf AtHeadEnd s) auth write lent
 
 -- ---- what each call's contract says, with `records` and `out` as they are lent: the answer with the state, then the records or the octets after it
 
@@ -74,7 +81,7 @@ Clocks h records t material r records-after =
     (r ≡ clockOf h records t material)
     × (records-after ≡ clockRecords h records t material)
 
-abbrev pub Receives : HeadEnd → List Assoc → ℕ → Bool → List ℕ → List ℕ → List ℕ → Called → List ℕ → Type 0
-Receives h records address digest message key out r out-after =
-    (r ≡ receiveOf h records address digest message key (length out))
-    × (out-after ≡ overlay out (receiveOctets h records address digest message key (length out)))
+abbrev pub Receives : HeadEnd → List Assoc → ℕ → List ℕ → List ℕ → List ℕ → List ℕ → List ℕ → Called → List ℕ → Type 0
+Receives h records address read write message auth out r out-after =
+    (r ≡ receiveOf h records address read write message auth (length out))
+    × (out-after ≡ overlay out (receiveOctets h records address read write message auth (length out)))

@@ -85,21 +85,34 @@ pub fn clock(h: HeadEnd, records: &mut [Assoc], t: u64, material: &[u8]) -> Call
     c
 }
 
-// A message from the modem of that address; the answer is written at the front of `out`. `digest` says whether its digest holds, and
-// `key` is the AUTH-Key of an Authorization Reply.
+// A message from the modem of that address; the answer is written at the front of `out`. Its digest is asked under `read_key`, the answer's is that of
+// `write_key`, and `auth` is the AUTH-Key of an Authorization Reply.
 pub fn receive(
     h: HeadEnd,
     records: &[Assoc],
     address: u64,
-    digest: bool,
+    read_key: &[u8],
+    write_key: &[u8],
     message: &[u8],
-    key: &[u8],
+    auth: &[u8],
     out: &mut [u8],
 ) -> Called
-    ensures { λ r. ⌜ Receives h (now (records .entry)) address digest (now (message .entry)) (now (key .entry)) (now (out .entry)) r (now (out .exit)) ⌝ }
+    ensures { λ r. ⌜ Receives h (now (records .entry)) address (now («read_key» .entry)) (now («write_key» .entry)) (now (message .entry)) (now (auth .entry)) (now (out .entry)) r (now (out .exit)) ⌝ }
 {
     let bad = first(records, out_of_limits(h));
     let r = read_request(message);
     let s = lookup(records, of_request(r));
-    receive_called(h, bad, records.len(), s, address, digest, r, key, out)
+    receive_called(
+        h,
+        bad,
+        records.len(),
+        s,
+        address,
+        message,
+        read_key,
+        write_key,
+        r,
+        auth,
+        out,
+    )
 }

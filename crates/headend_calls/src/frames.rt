@@ -35,7 +35,7 @@ pub fn seal(
 }
 
 // A frame of that direction and number from the modem of that address: the octets of the held key that opens it go to the front of `tek`
-// and `vector`, or a TEK Invalid for the modem to the front of `invalid`.
+// and `vector`, or a TEK Invalid for the modem, with the digest of `write_key`, to the front of `invalid`.
 pub fn open(
     h: HeadEnd,
     records: &[Assoc],
@@ -43,11 +43,12 @@ pub fn open(
     address: u64,
     said: u16,
     number: TekNumber,
+    write_key: &[u8],
     tek: &mut [u8],
     vector: &mut [u8],
     invalid: &mut [u8],
 ) -> OpenedCall
-    ensures { λ r. ⌜ OpenGives (openOf h (now (records .entry)) direction address said number (length (now (tek .entry))) (length (now (vector .entry))) (length (now (invalid .entry))))
+    ensures { λ r. ⌜ OpenGives (openOf h (now (records .entry)) direction address said number (now («write_key» .entry)) (length (now (tek .entry))) (length (now (vector .entry))) (length (now (invalid .entry))))
         (now (tek .entry)) (now (vector .entry)) (now (invalid .entry)) r (now (tek .exit)) (now (vector .exit)) (now (invalid .exit)) ⌝ }
 {
     let bad = first(records, out_of_limits(h));
@@ -61,6 +62,7 @@ pub fn open(
         address,
         said,
         number,
+        write_key,
         tek,
         vector,
         invalid,

@@ -6,7 +6,7 @@ use Prim.Native.Nat.{ℕ, _+_, _%_, _≤_, _<_}
 use native.Mathlib.Omega.{arith}
 use lib.Dec.{leb, eqb}
 use lib.ListN.{length}
-use borrow.Author.Tests.{leb-true, le-leb, le-ltb, lt-ltb, ne-eqb}
+use borrow.Author.Tests.{leb-true, le-leb, le-ltb, lt-ltb, ne-eqb, eqb-true}
 use Rattle.key_traffic.specs.declared.numbers.TekNumber.{TekNumber}
 use Rattle.key_traffic.specs.declared.traffic.TrafficKey.{TrafficKey}
 use Rattle.key_traffic.specs.declared.frame.Opening.{Opening}
@@ -29,6 +29,8 @@ use Rattle.message_rules.specs.Ranges.{requiredOf, among, isRequired}
 use Rattle.message_rules.specs.Attributes.{two, attrOctets, octets}
 use Rattle.message_rules.specs.Limits.{keyOctetsZero, paramsZero, descriptorZero, placeFit, descriptorsZero, headFits, fieldsFit, authKeyFits}
 use Rattle.message_rules.specs.Writing.{itemsOfType, itemsOfTypes, itemsOf, message, messageOf, noDigest}
+use Rattle.message_digest.specs.Digest.{messageKeyFits}
+use Rattle.message_digest.proofs.SignedLaws.{signed-length}
 use Rattle.headend_state.specs.declared.state.HeadEnd.{HeadEnd}
 use Rattle.headend_state.specs.declared.entries.Known.{Known}
 use Rattle.key_traffic.specs.declared.sealing.SealedCall.{SealedCall}
@@ -70,31 +72,32 @@ module _ (h : HeadEnd) (bad len : ℕ) (s : Found) (address said : ℕ) where
   first-two true false b₃ b₄ n e one other = absurd (other e)
   first-two true true b₃ b₄ n e one other = (refl, refl)
 
-  module _ (direction : ℕ) (number : TekNumber) (tek vector lent : ℕ) where
+  module _ (direction : ℕ) (number : TekNumber) (write : List ℕ) (tek vector lent : ℕ) where
     abbrev answer : Answer
-    answer = openAnswer h bad len s direction address said number tek vector lent
+    answer = openAnswer h bad len s direction address said number (messageKeyFits write) tek vector lent
 
     -- answered with neither 1 nor 2
-    met-two : (n : ℕ) → n ≡ answerNumber answer → (n ≡ 1 → ⊥) → (n ≡ 2 → ⊥) → (said ≤ 16383) × (16 ≤ tek) × (16 ≤ vector) × (40 ≤ lent)
+    met-two : (n : ℕ) → n ≡ answerNumber answer → (n ≡ 1 → ⊥) → (n ≡ 2 → ⊥) → (said ≤ 16383) × (length write ≡ 20) × (16 ≤ tek) × (16 ≤ vector) × (40 ≤ lent)
     unfolding openAnswer
     met-two n e one other =
         let q =
         first-two (frameFits h bad len s address said && eqb direction 0 && tekInRange number)
-        (leb (h .used) len && leb 16 tek && leb 16 vector && leb 40 lent)
+        (messageKeyFits write && leb (h .used) len && leb 16 tek && leb 16 vector && leb 40 lent)
         (isOwn (knownOf h address) said)
         (opens (openingIn h s number)) n e one other in
         let a₂ = both (frameFits h bad len s address said && eqb direction 0) (tekInRange number) (q .0) in
         let a₁ = both (frameFits h bad len s address said) (eqb direction 0) (a₂ .0) in
-        let b₃ = both (leb (h .used) len && leb 16 tek && leb 16 vector) (leb 40 lent) (q .1) in
-        let b₂ = both (leb (h .used) len && leb 16 tek) (leb 16 vector) (b₃ .0) in
-        let b₁ = both (leb (h .used) len) (leb 16 tek) (b₂ .0) in
-        (said-small (a₁ .0), leb-true 16 tek (b₁ .1), leb-true 16 vector (b₂ .1), leb-true 40 lent (b₃ .1))
+        let b₃ = both (messageKeyFits write && leb (h .used) len && leb 16 tek && leb 16 vector) (leb 40 lent) (q .1) in
+        let b₂ = both (messageKeyFits write && leb (h .used) len && leb 16 tek) (leb 16 vector) (b₃ .0) in
+        let b₁ = both (messageKeyFits write && leb (h .used) len) (leb 16 tek) (b₂ .0) in
+        let b₀ = both (messageKeyFits write) (leb (h .used) len) (b₁ .0) in
+        (said-small (a₁ .0), eqb-true (length write) 20 (b₀ .0), leb-true 16 tek (b₁ .1), leb-true 16 vector (b₂ .1), leb-true 40 lent (b₃ .1))
 
-    pub openable : (a : Answer) → a ≡ answer → Openable a said tek vector lent
+    pub openable : (a : Answer) → a ≡ answer → Openable a said write tek vector lent
     openable a e =
         record {
-          key = λ q. let m = met-two (answerNumber a) (ap answerNumber e) (λ x. omega (arith, x, q)) (λ x. omega (arith, x, q)) in (m .1, m .2);
-          invalid-fits = λ q. let m = met-two (answerNumber a) (ap answerNumber e) (λ x. omega (arith, x, q)) (λ x. omega (arith, x, q)) in (m .0, m .3);
+          key = λ q. let m = met-two (answerNumber a) (ap answerNumber e) (λ x. omega (arith, x, q)) (λ x. omega (arith, x, q)) in (m .2, m .3);
+          invalid-fits = λ q. let m = met-two (answerNumber a) (ap answerNumber e) (λ x. omega (arith, x, q)) (λ x. omega (arith, x, q)) in (m .0, m .1, m .4);
         }
 
 -- ---- a TEK Invalid
@@ -108,30 +111,31 @@ pub tek-invalid-length : (k : Known) (said : ℕ) (key : List ℕ) → length (m
 unfolding messageOf message itemsOf itemsOfTypes itemsOfType requiredOf octets attrOctets two
 tek-invalid-length k said key = refl
 
-pub tek-invalid-writable : (k : Known) (said lent : ℕ) → said ≤ 16383 → 40 ≤ lent → Writable (invalidFields k said) [] lent
+pub tek-invalid-writable : (k : Known) (said : ℕ) (write : List ℕ) (lent : ℕ) → said ≤ 16383 → length write ≡ 20 → 40 ≤ lent → Writable (invalidFields k said) [] write lent
 unfolding authKeyFits isRequired requiredOf among
-tek-invalid-writable k said lent small room =
+tek-invalid-writable k said write lent small wide room =
     record {
       fields = λ q. tek-invalid-fits k said small;
       auth-key = refl;
-      short = λ q. omega (arith, tek-invalid-length k said []);
+      message-key = wide;
+      short = λ q. omega (arith, tek-invalid-length k said [], signed-length (invalidFields k said) [] write (omega arith) (omega arith));
     }
 
-no-octets : (h : HeadEnd) (k : Known) (said : ℕ) → k .entry .keys .newer ≤ h .clock → invalidOctets h k said ≡ []
+no-octets : (h : HeadEnd) (k : Known) (said : ℕ) (write : List ℕ) → k .entry .keys .newer ≤ h .clock → invalidOctets h k said write ≡ []
 unfolding invalidOctets
-no-octets h k said past = rw (le-ltb (h .clock) (k .entry .keys .newer) past)
+no-octets h k said write past = rw (le-ltb (h .clock) (k .entry .keys .newer) past)
 
-all-octets : (h : HeadEnd) (k : Known) (said : ℕ) → h .clock < k .entry .keys .newer → answerOctets (invalidFields k said) [] ≡ invalidOctets h k said
+all-octets : (h : HeadEnd) (k : Known) (said : ℕ) (write : List ℕ) → h .clock < k .entry .keys .newer → answerOctets (invalidFields k said) [] write ≡ invalidOctets h k said write
 unfolding invalidOctets answerOctets
-all-octets h k said on = rw (lt-ltb (h .clock) (k .entry .keys .newer) on)
+all-octets h k said write on = rw (lt-ltb (h .clock) (k .entry .keys .newer) on)
 
-module _ (h : HeadEnd) (k known : Known) (same : k ≡ known) (said : ℕ) where
+module _ (h : HeadEnd) (k known : Known) (same : k ≡ known) (said : ℕ) (write : List ℕ) where
   -- no authorization key is active
-  pub none-invalid : k .entry .keys .newer ≤ h .clock → invalidOctets h known said ≡ []
-  none-invalid past = ap (λ (x : Known). invalidOctets h x said) (sym same) ∙ no-octets h k said past
+  pub none-invalid : k .entry .keys .newer ≤ h .clock → invalidOctets h known said write ≡ []
+  none-invalid past = ap (λ (x : Known). invalidOctets h x said write) (sym same) ∙ no-octets h k said write past
 
-  pub one-invalid : h .clock < k .entry .keys .newer → (f : Fields) → f ≡ invalidFields k said → answerOctets f [] ≡ invalidOctets h known said
-  one-invalid on f is = ap (λ (x : Fields). answerOctets x []) is ∙ all-octets h k said on ∙ ap (λ (x : Known). invalidOctets h x said) same
+  pub one-invalid : h .clock < k .entry .keys .newer → (f : Fields) → f ≡ invalidFields k said → answerOctets f [] write ≡ invalidOctets h known said write
+  one-invalid on f is = ap (λ (x : Fields). answerOctets x [] write) is ∙ all-octets h k said write on ∙ ap (λ (x : Known). invalidOctets h x said write) same
 
 -- ---- sealing: what is handed back and written, by the answer
 abbrev SealSays : Sealed → SealedCall → List ℕ → List ℕ → List ℕ → List ℕ → Type 0
@@ -165,15 +169,15 @@ abbrev OpenSays : HeadOpened → OpenedCall → List ℕ → List ℕ → List �
 OpenSays g c tek vector invalid tek′ vector′ invalid′ =
     (c ≡ openCalled g) × (tek′ ≡ overlay tek (g .out .tek)) × (vector′ ≡ overlay vector (g .out .vector)) × (invalid′ ≡ overlay invalid (g .invalid))
 
-module _ (h : HeadEnd) (s : Found) (address said : ℕ) (number : TekNumber) (tek vector invalid : List ℕ) where
+module _ (h : HeadEnd) (s : Found) (address said : ℕ) (number : TekNumber) (write tek vector invalid : List ℕ) where
   abbrev given : Answer → HeadOpened
-  given a = openedFor a h s address said number
+  given a = openedFor a h s address said number write
 
   abbrev call-of : Answer → HeadEnd → ℕ → ℕ → OpenedCall
   call-of a next w n = record { answer = a; state = next; width = w; count = n }
 
   abbrev sent : List ℕ
-  sent = invalidOctets h (knownOf h address) said
+  sent = invalidOctets h (knownOf h address) said write
 
   abbrev octets-of : Opening → ℕ → KeyOut
   octets-of o w = openedBy o w (s .held .older) (s .held .newer)

@@ -13,9 +13,9 @@ abbrev pub openCalled : HeadOpened → OpenedCall
 openCalled o = record { answer = o .answer; state = o .state; width = length (o .out .tek); count = length (o .invalid) }
 
 -- What writing asks once opening is answered; `FrameCallLaws` shows that an answer of document 01's questions has it
-pub record Openable (a : Answer) (said tek vector lent : ℕ) : Type 0 where
+pub record Openable (a : Answer) (said : ℕ) (write : List ℕ) (tek vector lent : ℕ) : Type 0 where
   pub key : answerNumber a ≡ 0 → (16 ≤ tek) × (16 ≤ vector)
-  pub invalid-fits : answerNumber a ≡ 13 → (said ≤ 16383) × (40 ≤ lent)
+  pub invalid-fits : answerNumber a ≡ 13 → (said ≤ 16383) × (length write ≡ 20) × (40 ≤ lent)
 
 -- The answer with the state, and every octet of the three lent slices: what is given at the front of each, the rest as it was
 abbrev pub OpenGives : HeadOpened → List ℕ → List ℕ → List ℕ → OpenedCall → List ℕ → List ℕ → List ℕ → Type 0

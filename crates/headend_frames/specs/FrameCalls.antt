@@ -15,7 +15,7 @@ use Rattle.headend_frames.specs.Frames.{sealedWith, HeadOpened, openedWi
 abbrev pub sealOf : HeadEnd → List Assoc → ℕ → ℕ → ℕ → ℕ → Sealed
 sealOf h xs address said tek vector = sealedWith h (firstOf (outOfLimits h) xs) (length xs) (lookupOf (OfSaid said) xs) address said tek vector
 
--- A frame with its direction, address, SAID and number
-abbrev pub openOf : HeadEnd → List Assoc → ℕ → ℕ → ℕ → TekNumber → ℕ → ℕ → ℕ → HeadOpened
-openOf h xs direction address said number tek vector lent =
-    openedWith h (firstOf (outOfLimits h) xs) (length xs) (lookupOf (OfSaid said) xs) direction address said number tek vector lent
+-- A frame with its direction, address, SAID and number, and the message key of a TEK Invalid
+abbrev pub openOf : HeadEnd → List Assoc → ℕ → ℕ → ℕ → TekNumber → List ℕ → ℕ → ℕ → ℕ → HeadOpened
+openOf h xs direction address said number write tek vector lent =
+    openedWith h (firstOf (outOfLimits h) xs) (length xs) (lookupOf (OfSaid said) xs) direction address said number write tek vector lent

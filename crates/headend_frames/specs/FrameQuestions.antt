@@ -45,12 +45,13 @@ sealAnswer h bad len s address said tek vector =
 abbrev pub openingIn : HeadEnd → Found → TekNumber → Opening
 openingIn h s number = openingOf (h .clock) number (s .held .older) (s .held .newer)
 
--- ---- opening: 1, 2, 10 and 13; a frame goes up to the head-end, direction 0. 13 is asked of the decision on the record's two keys
-unfoldable pub openAnswer : HeadEnd → ℕ → ℕ → Found → ℕ → ℕ → ℕ → TekNumber → ℕ → ℕ → ℕ → Answer
-openAnswer h bad len s direction address said number tek vector lent =
+-- ---- opening: 1, 2, 10 and 13; a frame goes up to the head-end, direction 0. 13 is asked of the decision on the record's
+-- two keys. `keys` says whether the message key has its length
+unfoldable pub openAnswer : HeadEnd → ℕ → ℕ → Found → ℕ → ℕ → ℕ → TekNumber → Bool → ℕ → ℕ → ℕ → Answer
+openAnswer h bad len s direction address said number keys tek vector lent =
     firstNo
     (record { refusal = OutOfLimits; met = frameFits h bad len s address said && eqb direction 0 && tekInRange number }
-    ∷ record { refusal = WrongLength; met = leb (h .used) len && leb 16 tek && leb 16 vector && leb 40 lent }
+    ∷ record { refusal = WrongLength; met = keys && leb (h .used) len && leb 16 tek && leb 16 vector && leb 40 lent }
     ∷ record { refusal = UnknownSaid; met = isOwn (knownOf h address) said }
     ∷ record { refusal = NoKeyForFrame; met = opens (openingIn h s number) }
     ∷ [])

@@ -11,7 +11,7 @@ use Rattle.questions.specs.Refusal.{answerNumber}
 use Rattle.key_traffic.specs.Sealing.{KeyOut, noOut, Sealed, sealedFor, openedBy}
 use Rattle.key_association.specs.declared.search.Found.{Found}
 use Rattle.message_rules.specs.declared.fields.Fields.{Fields}
-use Rattle.message_rules.specs.Writing.{messageOf, noDigest}
+use Rattle.message_digest.specs.Digest.{messageKeyFits, signedOf}
 use Rattle.headend_state.specs.declared.state.HeadEnd.{HeadEnd}
 use Rattle.headend_state.specs.declared.entries.Known.{Known}
 use Rattle.headend_state.specs.Authorization.{newestNumber}
@@ -29,8 +29,8 @@ sealedWith h bad len s address said tek vector =
 abbrev pub invalidFields : Known → ℕ → Fields
 invalidFields k said = errorAnswer 11 0 (newestNumber (k .entry .keys)) said 4
 
-unfoldable pub invalidOctets : HeadEnd → Known → ℕ → List ℕ
-invalidOctets h k said = cond (ltb (h .clock) (k .entry .keys .newer)) (messageOf (invalidFields k said) [] noDigest) []
+unfoldable pub invalidOctets : HeadEnd → Known → ℕ → List ℕ → List ℕ
+invalidOctets h k said write = cond (ltb (h .clock) (k .entry .keys .newer)) (signedOf (invalidFields k said) [] write) []
 
 -- What opening gives: the answer, the head-end after it, the key's octets, and the TEK Invalid's
 pub record HeadOpened : Type 0 where
@@ -39,22 +39,23 @@ pub record HeadOpened : Type 0 where
   pub out : KeyOut
   pub invalid : List ℕ
 
-abbrev pub openedFor : Answer → HeadEnd → Found → ℕ → ℕ → TekNumber → HeadOpened
-openedFor Done h s address said number =
+-- `write` is the message key of a TEK Invalid
+abbrev pub openedFor : Answer → HeadEnd → Found → ℕ → ℕ → TekNumber → List ℕ → HeadOpened
+openedFor Done h s address said number write =
     record {
       answer = Done;
       state = countedBy 0 h;
       out = openedBy (openingIn h s number) (widthOf (s .held .suite)) (s .held .older) (s .held .newer);
       invalid = [];
     }
-openedFor (Refused r) h s address said number =
+openedFor (Refused r) h s address said number write =
     record {
       answer = Refused r;
       state = countedBy (answerNumber (Refused r)) h;
       out = noOut;
-      invalid = cond (eqb (answerNumber (Refused r)) 13) (invalidOctets h (knownOf h address) said) [];
+      invalid = cond (eqb (answerNumber (Refused r)) 13) (invalidOctets h (knownOf h address) said write) [];
     }
 
-unfoldable pub openedWith : HeadEnd → ℕ → ℕ → Found → ℕ → ℕ → ℕ → TekNumber → ℕ → ℕ → ℕ → HeadOpened
-openedWith h bad len s direction address said number tek vector lent =
-    openedFor (openAnswer h bad len s direction address said number tek vector lent) h s address said number
+unfoldable pub openedWith : HeadEnd → ℕ → ℕ → Found → ℕ → ℕ → ℕ → TekNumber → List ℕ → ℕ → ℕ → ℕ → HeadOpened
+openedWith h bad len s direction address said number write tek vector lent =
+    openedFor (openAnswer h bad len s direction address said number (messageKeyFits write) tek vector lent) h s address said number write

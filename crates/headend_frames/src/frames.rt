@@ -22,6 +22,7 @@ use key_traffic::sealing::SealedCall;
 use key_traffic::sealing::put_key;
 use key_traffic::sealing::put_opened;
 use key_traffic::suites::width;
+use message_digest::digest::message_key_fits;
 use message_rules::codes::CODE_TEK_INVALID;
 use message_rules::codes::ERROR_KEY_NUMBER;
 use questions::refusal::Answer;
@@ -51,9 +52,10 @@ fn opened_call(a: Answer, h: HeadEnd, width: usize, count: usize) -> OpenedCall
 }
 
 // A TEK Invalid to the modem of that address, where one of its authorization keys is active; how many octets is handed back.
-fn put_invalid(h: HeadEnd, address: u64, said: u16, out: &mut [u8]) -> usize
-    requires { ⌜ (said ≤ 16383) × (40 ≤ length (now out)) ⌝ }
-    ensures { λ n. ⌜ (n ≡ length (invalidOctets h (knownOf h address) said)) × (now (out .exit) ≡ overlay (now (out .entry)) (invalidOctets h (knownOf h address) said)) ⌝ }
+fn put_invalid(h: HeadEnd, address: u64, said: u16, write_key: &[u8], out: &mut [u8]) -> usize
+    requires { ⌜ (said ≤ 16383) × (length (now «write_key») ≡ 20) × (40 ≤ length (now out)) ⌝ }
+    ensures { λ n. ⌜ (n ≡ length (invalidOctets h (knownOf h address) said (now («write_key» .entry))))
+        × (now (out .exit) ≡ overlay (now (out .entry)) (invalidOctets h (knownOf h address) said (now («write_key» .entry)))) ⌝ }
 {
     let k = entry_of(h, address);
     let e = k.entry;
@@ -63,8 +65,8 @@ fn put_invalid(h: HeadEnd, address: u64, said: u16, out: &mut [u8]) -> usize
     }
     let f = error_answer(CODE_TEK_INVALID, 0, newest(keys), said, ERROR_KEY_NUMBER);
     let none = [0u8; 1];
-    let key = &none[..0];
-    put_answer(f, key, out)
+    let auth = &none[..0];
+    put_answer(f, auth, write_key, out)
 }
 
 // Sealing, with what the searches over the records found: the older key's octets go to the front of the two slices.
@@ -109,18 +111,19 @@ fn open_by(
     address: u64,
     said: u16,
     number: TekNumber,
+    write_key: &[u8],
     tek: &mut [u8],
     vector: &mut [u8],
     invalid: &mut [u8],
 ) -> OpenedCall
-    requires { ⌜ Openable a said (length (now tek)) (length (now vector)) (length (now invalid)) ⌝ }
-    ensures { λ c. ⌜ OpenGives (openedFor a h s address said number)
+    requires { ⌜ Openable a said (now «write_key») (length (now tek)) (length (now vector)) (length (now invalid)) ⌝ }
+    ensures { λ c. ⌜ OpenGives (openedFor a h s address said number (now («write_key» .entry)))
         (now (tek .entry)) (now (vector .entry)) (now (invalid .entry)) c (now (tek .exit)) (now (vector .exit)) (now (invalid .exit)) ⌝ }
 {
     let no = answer_number(a);
     let next = counted(no, h);
     if no == NO_KEY_FOR_FRAME {
-        let n = put_invalid(h, address, said, invalid);
+        let n = put_invalid(h, address, said, write_key, invalid);
         return opened_call(a, next, 0, n);
     }
     if no != DONE {
@@ -144,11 +147,12 @@ pub fn open_called(
     address: u64,
     said: u16,
     number: TekNumber,
+    write_key: &[u8],
     tek: &mut [u8],
     vector: &mut [u8],
     invalid: &mut [u8],
 ) -> OpenedCall
-    ensures { λ c. ⌜ OpenGives (openedWith h bad len s direction address said number (length (now (tek .entry))) (length (now (vector .entry))) (length (now (invalid .entry))))
+    ensures { λ c. ⌜ OpenGives (openedWith h bad len s direction address said number (now («write_key» .entry)) (length (now (tek .entry))) (length (now (vector .entry))) (length (now (invalid .entry))))
         (now (tek .entry)) (now (vector .entry)) (now (invalid .entry)) c (now (tek .exit)) (now (vector .exit)) (now (invalid .exit)) ⌝ }
 {
     let a = open_answer(
@@ -160,9 +164,21 @@ pub fn open_called(
         address,
         said,
         number,
+        message_key_fits(write_key),
         tek.len(),
         vector.len(),
         invalid.len(),
     );
-    open_by(a, h, s, address, said, number, tek, vector, invalid)
+    open_by(
+        a,
+        h,
+        s,
+        address,
+        said,
+        number,
+        write_key,
+        tek,
+        vector,
+        invalid,
+    )
 }

@@ -92,7 +92,7 @@ pub fn seal_answer(
     ask(q1, Refusal::OutOfLimits, a2)
 }
 
-// All questions of opening; the last length is that of the slice for a TEK Invalid.
+// All questions of opening; `keys` says whether the message key has its length, and the last length is that of the slice for a TEK Invalid.
 pub fn open_answer(
     h: HeadEnd,
     bad: usize,
@@ -102,18 +102,20 @@ pub fn open_answer(
     address: u64,
     said: u16,
     number: TekNumber,
+    keys: bool,
     tek: usize,
     vector: usize,
     lent: usize,
 ) -> Answer
-    ensures { λ a. ⌜ a ≡ openAnswer h bad len s direction address said number tek vector lent ⌝ }
+    ensures { λ a. ⌜ a ≡ openAnswer h bad len s direction address said number keys tek vector lent ⌝ }
 {
     let record = s.held;
     let older = record.older;
     let newer = record.newer;
     let k = entry_of(h, address);
     let q1 = frame_fits(h, bad, len, s, address, said) & (direction == UP) & tek_in_range(number);
-    let q2 = (h.used <= len)
+    let q2 = keys
+        & (h.used <= len)
         & (KEY_OCTETS <= tek)
         & (KEY_OCTETS <= vector)
         & (INVALID_OCTETS <= lent);

@@ -18,6 +18,8 @@ use Rattle.message_rules.specs.Fields.{noFields}
 use Rattle.message_rules.specs.Limits.{fieldsFit, authKeyFits}
 use Rattle.message_rules.specs.Writing.{messageOf, noDigest}
 use Rattle.message_rules.proofs.HoldsLaws.{never}
+use Rattle.message_rules.proofs.FieldsFit.{fit}
+use Rattle.message_digest.proofs.SignedLaws.{signed-length}
 use Rattle.key_association.specs.declared.listing.Listing.{Listing}
 use Rattle.key_association.specs.declared.record.Assoc.{Assoc}
 use Rattle.key_association.specs.declared.search.Found.{Found}
@@ -45,9 +47,9 @@ head-ready h address e listed =
     countable (h .settings .ak .life) (h .clock) (knownOf h address .entry .keys) (i .ak-high) (i .clock)
     (entry-facts (h .settings .ak .life) (h .clock) (knownOf h address .entry) (known-in h address listed e) .keys-fit)
 
-pub reaction-ready : (h : HeadEnd) (bad len : ℕ) (s : Found) (address : ℕ) (digest : Bool) (r : Reading) (key lent : ℕ)
-    → receiveAnswer h bad len s address digest r key lent ≡ Done → ReactionFits h (knownOf h address)
-reaction-ready h bad len s address digest r key lent e = head-ready h address (receive-asked h bad len s address digest r key lent e .fits)
+pub reaction-ready : (h : HeadEnd) (bad len : ℕ) (s : Found) (address : ℕ) (digest keys : Bool) (r : Reading) (key lent : ℕ)
+    → receiveAnswer h bad len s address digest keys r key lent ≡ Done → ReactionFits h (knownOf h address)
+reaction-ready h bad len s address digest keys r key lent e = head-ready h address (receive-asked h bad len s address digest keys r key lent e .fits)
 
 -- ---- an active key's number is in its range
 pub active-small : (clock : ℕ) (n : AkNumber) (k : AuthKeys) → isActive clock n k ≡ true → n .0 ≤ 15
@@ -122,90 +124,92 @@ suits-reply h len s k digest f all c w e =
     (ltb-true (s .at) (h .used) (g₁ .0), g₁ .1, g₂ .1, leb-true (lifeLeft (h .clock) (s .held .newer .deadline)) 604800 (g₃ .1))
 
 -- ---- what can be written
-writable-by : (f : Fields) (key : List ℕ) (lent : ℕ) → fieldsFit f ≡ true → authKeyFits f (length key) ≡ true
-    → length (messageOf f key noDigest) ≤ 342 → 342 ≤ lent → Writable f key lent
-writable-by f key lent e k most room = record { fields = λ q. e; auth-key = k; short = λ q. omega arith }
+writable-by : (f : Fields) (auth write : List ℕ) (lent : ℕ) → fieldsFit f ≡ true → authKeyFits f (length auth) ≡ true
+    → length (messageOf f auth noDigest) ≤ 342 → length write ≡ 20 → 342 ≤ lent → Writable f auth write lent
+writable-by f auth write lent e k most wide room =
+    let t = fit f auth e k in
+    record { fields = λ q. e; auth-key = k; message-key = wide; short = λ q. omega (arith, signed-length f auth write (t .low) (t .high)) }
 
-none-writable : (key : List ℕ) (lent : ℕ) → Writable noFields key lent
+none-writable : (auth write : List ℕ) (lent : ℕ) → length write ≡ 20 → Writable noFields auth write lent
 unfolding authKeyFits isRequired requiredOf among
-none-writable key lent = record { fields = λ q. no-code q; auth-key = refl; short = λ q. no-code q }
+none-writable auth write lent wide = record { fields = λ q. no-code q; auth-key = refl; message-key = wide; short = λ q. no-code q }
   where
     no-code : {A : Type 0} → true ≡ false → A
     no-code e = let z : _≡_ {A = ℕ} 0 1 = cc in absurd (omega arith)
 
-module _ (key : List ℕ) (lent : ℕ) (room : 342 ≤ lent) where
-  reject-writable : (i e : ℕ) → Writable (reject i e) key lent
+module _ (auth write : List ℕ) (lent : ℕ) (wide : length write ≡ 20) (room : 342 ≤ lent) where
+  reject-writable : (i e : ℕ) → Writable (reject i e) auth write lent
   unfolding authKeyFits isRequired requiredOf among
-  reject-writable i e = writable-by (reject i e) key lent (reject-fits i e) refl (omega (arith, reject-length i e key)) room
+  reject-writable i e = writable-by (reject i e) auth write lent (reject-fits i e) refl (omega (arith, reject-length i e auth)) wide room
 
-  invalid-writable : (i e : ℕ) → Writable (invalid i e) key lent
+  invalid-writable : (i e : ℕ) → Writable (invalid i e) auth write lent
   unfolding authKeyFits isRequired requiredOf among
-  invalid-writable i e = writable-by (invalid i e) key lent (invalid-fits i e) refl (omega (arith, invalid-length i e key)) room
+  invalid-writable i e = writable-by (invalid i e) auth write lent (invalid-fits i e) refl (omega (arith, invalid-length i e auth)) wide room
 
-  key-reject-writable : (f : Fields) (e : ℕ) → f .ak .0 ≤ 15 → f .said ≤ 16383 → Writable (keyReject f e) key lent
+  key-reject-writable : (f : Fields) (e : ℕ) → f .ak .0 ≤ 15 → f .said ≤ 16383 → Writable (keyReject f e) auth write lent
   unfolding authKeyFits isRequired requiredOf among
   key-reject-writable f e low small =
-      writable-by (keyReject f e) key lent (key-reject-fits f e low small) refl (omega (arith, key-reject-length f e key)) room
+      writable-by (keyReject f e) auth write lent (key-reject-fits f e low small) refl (omega (arith, key-reject-length f e auth)) wide room
 
-  reply-writable : (clock i : ℕ) (l : Listing) (k : AuthKeys) → 1 ≤ length key → length key ≤ 256 → ListingIn l
-      → 1 ≤ lifeLeft clock (k .newer) → lifeLeft clock (k .newer) ≤ 12096000 → Writable (replyAnswer clock i l k) key lent
+  reply-writable : (clock i : ℕ) (l : Listing) (k : AuthKeys) → 1 ≤ length auth → length auth ≤ 256 → ListingIn l
+      → 1 ≤ lifeLeft clock (k .newer) → lifeLeft clock (k .newer) ≤ 12096000 → Writable (replyAnswer clock i l k) auth write lent
   unfolding authKeyFits isRequired requiredOf among
   reply-writable clock i l k few many p low high =
-      writable-by (replyAnswer clock i l k) key lent (reply-fits clock i l k p low high)
-      (rw (le-leb 1 (length key) few, le-leb (length key) 256 many))
-      (reply-most clock i l k key (p .high) many) room
+      writable-by (replyAnswer clock i l k) auth write lent (reply-fits clock i l k p low high)
+      (rw (le-leb 1 (length auth) few, le-leb (length auth) 256 many))
+      (reply-most clock i l k auth (p .high) many) wide room
 
   key-reply-writable : (half clock : ℕ) (a : Assoc) (f : Fields) → InLimits half clock a → 1 ≤ half → lifeLeft clock (a .newer .deadline) ≤ 604800
-      → f .ak .0 ≤ 15 → f .said ≤ 16383 → Writable (keyReply clock a f) key lent
+      → f .ak .0 ≤ 15 → f .said ≤ 16383 → Writable (keyReply clock a f) auth write lent
   unfolding authKeyFits isRequired requiredOf among
   key-reply-writable half clock a f i some most low small =
-      writable-by (keyReply clock a f) key lent (key-reply-fits half clock a i some most f low small) refl (omega (arith, key-reply-most clock a f key)) room
+      writable-by (keyReply clock a f) auth write lent (key-reply-fits half clock a i some most f low small) refl (omega (arith, key-reply-most clock a f auth)) wide room
 
 -- ---- the answer to a message that is taken
-module _ (h : HeadEnd) (bad len : ℕ) (s : Found) (address : ℕ) (digest : Bool) (r : Reading) (key : List ℕ) (lent : ℕ)
-    (q : ReceiveAsked h bad len s address digest r (length key) lent) where
+module _ (h : HeadEnd) (bad len : ℕ) (s : Found) (address : ℕ) (digest keys : Bool) (r : Reading) (auth write : List ℕ) (lent : ℕ)
+    (q : ReceiveAsked h bad len s address digest keys r (length auth) lent) (wide : length write ≡ 20) where
   abbrev known : Known
   known = knownOf h address
 
-  request-writable : Writable (requestAnswer h known (r .fields .identifier)) key lent
+  request-writable : Writable (requestAnswer h known (r .fields .identifier)) auth write lent
   unfolding requestAnswer
   request-writable = go (known .«is_listed») (eqb (known .entry .allowed) 0) refl
     where
       go : (a b : Bool) → known .«is_listed» ≡ a
-          → Writable (cond (not a) (reject (r .fields .identifier) 1) (cond b (reject (r .fields .identifier) 6) (replyAnswer (h .clock) (r .fields .identifier) (known .entry .listing) (keysAfter h (known .entry))))) key lent
-      go false b e = reject-writable key lent (q .answer-room) (r .fields .identifier) 1
-      go true true e = reject-writable key lent (q .answer-room) (r .fields .identifier) 6
+          → Writable (cond (not a) (reject (r .fields .identifier) 1) (cond b (reject (r .fields .identifier) 6) (replyAnswer (h .clock) (r .fields .identifier) (known .entry .listing) (keysAfter h (known .entry))))) auth write lent
+      go false b e = reject-writable auth write lent wide (q .answer-room) (r .fields .identifier) 1
+      go true true e = reject-writable auth write lent wide (q .answer-room) (r .fields .identifier) 6
       go true false e =
           let i = head-facts h (q .fits) in
           let n = entry-facts (h .settings .ak .life) (h .clock) (known .entry) (known-in h address e (q .fits)) in
           let life = newest-life (h .settings .ak .life) (h .clock) (known .entry .keys) (omega (arith, i .ak-low)) (n .keys-fit) in
-          reply-writable key lent (q .answer-room) (h .clock) (r .fields .identifier) (known .entry .listing) (keysAfter h (known .entry))
+          reply-writable auth write lent wide (q .answer-room) (h .clock) (r .fields .identifier) (known .entry .listing) (keysAfter h (known .entry))
           (q .key-some) (q .key-small) (n .listing) (life .0) (omega (arith, life .1, i .ak-high))
 
-  key-writable : eqb (r .fields .code) 7 ≡ true → Writable (keyAnswer (h .clock) known (s .held) digest (r .fields)) key lent
+  key-writable : eqb (r .fields .code) 7 ≡ true → Writable (keyAnswer (h .clock) known (s .held) digest (r .fields)) auth write lent
   key-writable c =
-      by-key-answer (h .clock) known (s .held) digest (r .fields) (λ f. Writable f key lent)
-      (invalid-writable key lent (q .answer-room) (r .fields .identifier) 1)
-      (λ e₁. invalid-writable key lent (q .answer-room) (r .fields .identifier) 4)
-      (λ e₁ e₂. invalid-writable key lent (q .answer-room) (r .fields .identifier) 5)
-      (λ e₁ e₂. key-reject-writable key lent (q .answer-room) (r .fields) 2 (active-small (h .clock) (r .fields .ak) (known .entry .keys) e₂) (leb-true (r .fields .said) 16383 (q .said-fits)))
+      by-key-answer (h .clock) known (s .held) digest (r .fields) (λ f. Writable f auth write lent)
+      (invalid-writable auth write lent wide (q .answer-room) (r .fields .identifier) 1)
+      (λ e₁. invalid-writable auth write lent wide (q .answer-room) (r .fields .identifier) 4)
+      (λ e₁ e₂. invalid-writable auth write lent wide (q .answer-room) (r .fields .identifier) 5)
+      (λ e₁ e₂. key-reject-writable auth write lent wide (q .answer-room) (r .fields) 2 (active-small (h .clock) (r .fields .ak) (known .entry .keys) e₂) (leb-true (r .fields .said) 16383 (q .said-fits)))
       (λ w.
       let i = head-facts h (q .fits) in
       let t = suits-reply h len s known digest (r .fields) (q .records-lent) c w (q .record-suits) in
-      key-reply-writable key lent (q .answer-room) (halfIn h) (h .clock) (s .held) (r .fields) (limits-of (halfIn h) (h .clock) (s .held) (t .1))
+      key-reply-writable auth write lent wide (q .answer-room) (halfIn h) (h .clock) (s .held) (r .fields) (limits-of (halfIn h) (h .clock) (s .held) (t .1))
       (omega (arith, i .half-low)) (t .3) (active-small (h .clock) (r .fields .ak) (known .entry .keys) (w .active)) (leb-true (r .fields .said) 16383 (q .said-fits)))
 
-  answer-writable : Writable (reactionTo h s address digest r .answer) key lent
+  answer-writable : Writable (reactionTo h s address digest r .answer) auth write lent
   unfolding reactionOf
   answer-writable = go (eqb (r .fields .code) 4) (eqb (r .fields .code) 7) refl
     where
       go : (a b : Bool) → eqb (r .fields .code) 7 ≡ b
-          → Writable (cond a (requestReaction h known (r .fields .identifier)) (cond b (record { state = h; answer = keyAnswer (h .clock) known (s .held) digest (r .fields) }) (record { state = h; answer = noFields })) .answer) key lent
+          → Writable (cond a (requestReaction h known (r .fields .identifier)) (cond b (record { state = h; answer = keyAnswer (h .clock) known (s .held) digest (r .fields) }) (record { state = h; answer = noFields })) .answer) auth write lent
       go true b c = request-writable
       go false true c = key-writable c
-      go false false c = none-writable key lent
+      go false false c = none-writable auth write lent wide
 
-pub reaction-writable : (h : HeadEnd) (bad len : ℕ) (s : Found) (address : ℕ) (digest : Bool) (r : Reading) (key : List ℕ) (lent : ℕ)
-    → receiveAnswer h bad len s address digest r (length key) lent ≡ Done → Writable (reactionTo h s address digest r .answer) key lent
-reaction-writable h bad len s address digest r key lent e =
-    answer-writable h bad len s address digest r key lent (receive-asked h bad len s address digest r (length key) lent e)
+pub reaction-writable : (h : HeadEnd) (bad len : ℕ) (s : Found) (address : ℕ) (digest keys : Bool) (r : Reading) (auth write : List ℕ) (lent : ℕ)
+    → receiveAnswer h bad len s address digest keys r (length auth) lent ≡ Done → length write ≡ 20 → Writable (reactionTo h s address digest r .answer) auth write lent
+reaction-writable h bad len s address digest keys r auth write lent e wide =
+    answer-writable h bad len s address digest keys r auth write lent (receive-asked h bad len s address digest keys r (length auth) lent e) wide

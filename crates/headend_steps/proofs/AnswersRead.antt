@@ -16,11 +16,13 @@ use Rattle.message_rules.specs.Messages.{receives, receiverOf}
 use Rattle.message_rules.specs.Fields.{noFields}
 use Rattle.message_rules.specs.Reading.{readOf}
 use Rattle.message_rules.specs.Limits.{fieldsFit, authKeyFits}
-use Rattle.message_rules.specs.Writing.{noDigest}
+use Rattle.digest_hmac.specs.Hmac.{hmac}
+use Rattle.message_digest.specs.Digest.{digestHolds, bare, signedOf}
+use Rattle.message_digest.proofs.SignedLaws.{signed-read, signed-holds}
 use Rattle.message_rules.proofs.HoldsLaws.{never}
 use Rattle.message_rules.proofs.CodesLaws.{by-code}
 use Rattle.message_rules.proofs.FieldsFit.{Shaped, fit}
-use Rattle.message_rules.proofs.WrittenRead.{keyPlace, digestPlace, written-read}
+use Rattle.message_rules.proofs.WrittenRead.{keyPlace, digestPlace}
 use Rattle.key_association.specs.declared.listing.Listing.{Listing}
 use Rattle.key_association.specs.declared.record.Assoc.{Assoc}
 use Rattle.key_association.specs.declared.search.Found.{Found}
@@ -37,22 +39,30 @@ use Rattle.headend_steps.proofs.AnswerFields.{key-reply-fits}
 use Rattle.headend_steps.proofs.AnswerFits.{by-key-answer, reaction-writable}
 
 -- What is read of an answer
-abbrev pub readBack : Fields → List ℕ → Reading
-readBack f key = record { answer = Done; fields = f; key = keyPlace f key; digest = digestPlace f key noDigest }
+abbrev pub readBack : Fields → List ℕ → List ℕ → Reading
+readBack f auth write = record { answer = Done; fields = f; key = keyPlace f auth; digest = digestPlace f auth (hmac write (bare f auth)) }
 
 to-modem : (c : ℕ) → 4 ≤ c → c ≤ 12 → receives Modem c ≡ true → receiverOf c ≡ Modem
 unfolding receives receiverOf
 to-modem = by-code (λ c. receives Modem c ≡ true → receiverOf c ≡ Modem) never (λ h. refl) (λ h. refl) never (λ h. refl) (λ h. refl) (λ h. refl) (λ h. refl) never
 
 -- Any fields within the limits, of a code that modems receive
-pub answer-read : (f : Fields) (key padding : List ℕ) → Shaped f → receives Modem (f .code) ≡ true → fieldsFit f ≡ true → authKeyFits f (length key) ≡ true
-    → readOf Modem (answerOctets f key ++ padding) ≡ readBack f key
-unfolding answerOctets
-answer-read f key padding shaped mine e k =
-    let t = fit f key e k in
-    let some : eqb (f .code) 0 ≡ false = ne-eqb (f .code) 0 (λ q. omega (arith, t .low)) in
-    let there : receiverOf (f .code) ≡ Modem = to-modem (f .code) (t .low) (t .high) mine in
-    rw some (rw there at (written-read f key noDigest padding shaped e k refl))
+module _ (f : Fields) (auth write padding : List ℕ) (shaped : Shaped f) (mine : receives Modem (f .code) ≡ true) (e : fieldsFit f ≡ true)
+    (k : authKeyFits f (length auth) ≡ true) where
+  octets-are : answerOctets f auth write ≡ signedOf f auth write
+  unfolding answerOctets
+  octets-are = let some : eqb (f .code) 0 ≡ false = ne-eqb (f .code) 0 (λ q. omega (arith, fit f auth e k .low)) in rw some
+
+  there : receiverOf (f .code) ≡ Modem
+  there = to-modem (f .code) (fit f auth e k .low) (fit f auth e k .high) mine
+
+  pub answer-read : readOf Modem (answerOctets f auth write ++ padding) ≡ readBack f auth write
+  answer-read = rw octets-are (rw there at (signed-read f auth write padding shaped e k))
+
+  -- Its digest, where it carries one, holds under the key that it was written with
+  pub answer-holds : isRequired (f .code) 11 ≡ true
+      → digestHolds write (readOf Modem (answerOctets f auth write ++ padding) .digest) (answerOctets f auth write ++ padding) ≡ true
+  answer-holds h = rw octets-are (rw there at (signed-holds f auth write padding shaped e k h))
 
 -- ---- the arrays have their declared lengths
 pub error-shaped : (f : Fields) (code e : ℕ) → Shaped (errorAnswer code (f .identifier) (f .ak) (f .said) e)
@@ -82,13 +92,13 @@ key-reply-shaped clock a f n =
     }
 
 -- ---- a Key Reply
-module _ (key padding : List ℕ) where
+module _ (auth write padding : List ℕ) where
   pub key-reply-read : (half clock : ℕ) (a : Assoc) (f : Fields) → ShapedRecord a → InLimits half clock a → 1 ≤ half → lifeLeft clock (a .newer .deadline) ≤ 604800
       → f .ak .0 ≤ 15 → f .said ≤ 16383
-      → readOf Modem (answerOctets (keyReply clock a f) key ++ padding) ≡ readBack (keyReply clock a f) key
+      → readOf Modem (answerOctets (keyReply clock a f) auth write ++ padding) ≡ readBack (keyReply clock a f) auth write
   unfolding receives authKeyFits isRequired requiredOf among
   key-reply-read half clock a f n i some short low small =
-      answer-read (keyReply clock a f) key padding (key-reply-shaped clock a f n) refl (key-reply-fits half clock a i some short f low small) refl
+      answer-read (keyReply clock a f) auth write padding (key-reply-shaped clock a f n) refl (key-reply-fits half clock a i some short f low small) refl
 
 -- ---- the answer to a message that is taken
 pub record Sendable (f : Fields) : Type 0 where
@@ -152,24 +162,34 @@ module _ (h : HeadEnd) (k : Known) (a : Assoc) (digest : Bool) (f : Fields) (n :
       go false true = key-sends
       go false false = none-sends
 
-module _ (h : HeadEnd) (bad len : ℕ) (s : Found) (address : ℕ) (digest : Bool) (r : Reading) (key : List ℕ) (lent : ℕ)
-    (done : receiveAnswer h bad len s address digest r (length key) lent ≡ Done) where
+module _ (h : HeadEnd) (bad len : ℕ) (s : Found) (address : ℕ) (digest keys : Bool) (r : Reading) (auth write : List ℕ) (lent : ℕ)
+    (done : receiveAnswer h bad len s address digest keys r (length auth) lent ≡ Done) where
   -- what the call writes
-  pub written-is : receiveWritten h bad len s address digest r key lent ≡ answerOctets (reactionTo h s address digest r .answer) key
+  pub written-is : receiveWritten h bad len s address digest keys r auth write lent ≡ answerOctets (reactionTo h s address digest r .answer) auth write
   unfolding receiveWritten
   written-is = rw done
 
-  pub called-is : receiveCalled h bad len s address digest r key lent
-      ≡ record { answer = Done; state = reactionTo h s address digest r .state; count = length (answerOctets (reactionTo h s address digest r .answer) key) }
+  pub called-is : receiveCalled h bad len s address digest keys r auth write lent
+      ≡ record { answer = Done; state = reactionTo h s address digest r .state; count = length (answerOctets (reactionTo h s address digest r .answer) auth write) }
   unfolding receiveCalled
   called-is = rw done
 
-  -- Where there is an answer, the modem reads its fields
-  pub reaction-read : (padding : List ℕ) → ShapedRecord (s .held)
-      → eqb (reactionTo h s address digest r .answer .code) 0 ≡ false
-      → readOf Modem (receiveWritten h bad len s address digest r key lent ++ padding) ≡ readBack (reactionTo h s address digest r .answer) key
-  reaction-read padding n some =
-      let f = reactionTo h s address digest r .answer in
-      let w = reaction-writable h bad len s address digest r key lent done in
-      let t = reaction-sends h (knownOf h address) (s .held) digest (r .fields) n in
-      rw written-is (answer-read f key padding (t .shaped) (t .mine some) (w .fields some) (w .auth-key))
+  module _ (wide : length write ≡ 20) (padding : List ℕ) (n : ShapedRecord (s .held)) (some : eqb (reactionTo h s address digest r .answer .code) 0 ≡ false) where
+    -- Where there is an answer, the modem reads its fields
+    pub reaction-read : readOf Modem (receiveWritten h bad len s address digest keys r auth write lent ++ padding) ≡ readBack (reactionTo h s address digest r .answer) auth write
+    reaction-read =
+        let f = reactionTo h s address digest r .answer in
+        let w = reaction-writable h bad len s address digest keys r auth write lent done wide in
+        let t = reaction-sends h (knownOf h address) (s .held) digest (r .fields) n in
+        rw written-is (answer-read f auth write padding (t .shaped) (t .mine some) (w .fields some) (w .auth-key))
+
+    -- and its digest, where it carries one, holds under the key that it was written with
+    pub reaction-holds : isRequired (reactionTo h s address digest r .answer .code) 11 ≡ true
+        → digestHolds write (readOf Modem (receiveWritten h bad len s address digest keys r auth write lent ++ padding) .digest)
+        (receiveWritten h bad len s address digest keys r auth write lent ++ padding)
+        ≡ true
+    reaction-holds q =
+        let f = reactionTo h s address digest r .answer in
+        let w = reaction-writable h bad len s address digest keys r auth write lent done wide in
+        let t = reaction-sends h (knownOf h address) (s .held) digest (r .fields) n in
+        rw written-is (answer-holds f auth write padding (t .shaped) (t .mine some) (w .fields some) (w .auth-key) q)

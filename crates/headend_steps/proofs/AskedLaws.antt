@@ -135,16 +135,16 @@ module _ (h : HeadEnd) (t : ℕ) where
         }
 
 -- ---- a message
-module _ (h : HeadEnd) (w : Reaction) (key : List ℕ) where
-  pub receive-refused : (a : Answer) → isDone a ≡ false → (answeredCall a h ≡ calledFor a h w key) × ([] ≡ writtenFor a w key)
+module _ (h : HeadEnd) (w : Reaction) (auth write : List ℕ) where
+  pub receive-refused : (a : Answer) → isDone a ≡ false → (answeredCall a h ≡ calledFor a h w auth write) × ([] ≡ writtenFor a w auth write)
   receive-refused Done e = let z : _≡_ {A = ℕ} 0 1 = not-done Done e refl in absurd (omega arith)
   receive-refused (Refused r) e = (refl, refl)
 
   pub receive-done : (a : Answer) → isDone a ≡ true
-      → (record { answer = a; state = w .state; count = length (answerOctets (w .answer) key) } ≡ calledFor a h w key) × (answerOctets (w .answer) key ≡ writtenFor a w key)
+      → (record { answer = a; state = w .state; count = length (answerOctets (w .answer) auth write) } ≡ calledFor a h w auth write) × (answerOctets (w .answer) auth write ≡ writtenFor a w auth write)
   receive-done a e = rw (is-done a e) (refl, refl)
 
-module _ (h : HeadEnd) (bad len : ℕ) (s : Found) (address : ℕ) (digest : Bool) (r : Reading) (key lent : ℕ) where
+module _ (h : HeadEnd) (bad len : ℕ) (s : Found) (address : ℕ) (digest keys : Bool) (r : Reading) (key lent : ℕ) where
   pub record ReceiveAsked : Type 0 where
     pub fits : headFits h ≡ true
     pub records-fit : h .used ≤ bad
@@ -154,6 +154,7 @@ module _ (h : HeadEnd) (bad len : ℕ) (s : Found) (address : ℕ) (digest : Boo
     pub answer-room : 342 ≤ lent
     pub key-some : 1 ≤ key
     pub key-small : key ≤ 256
+    pub keys-fit : keys ≡ true
     pub records-lent : h .used ≤ len
     pub read : r .answer ≡ Done
     pub identifier : identifierFits (r .fields) ≡ true
@@ -164,13 +165,13 @@ module _ (h : HeadEnd) (bad len : ℕ) (s : Found) (address : ℕ) (digest : Boo
         refusal = OutOfLimits;
         met = headFits h && recordsFit h bad len && addressFits address && saidFits (r .fields .said) && recordSuits h len s (knownOf h address) digest (r .fields);
       }
-      ∷ record { refusal = WrongLength; met = leb 342 lent && leb 1 key && leb key 256 && leb (h .used) len }
+      ∷ record { refusal = WrongLength; met = leb 342 lent && leb 1 key && leb key 256 && keys && leb (h .used) len }
       ∷ []
 
   abbrev last : List Question
   last = record { refusal = WrongIdentifier; met = identifierFits (r .fields) } ∷ []
 
-  pub receive-asked : receiveAnswer h bad len s address digest r key lent ≡ Done → ReceiveAsked
+  pub receive-asked : receiveAnswer h bad len s address digest keys r key lent ≡ Done → ReceiveAsked
   unfolding receiveAnswer
   receive-asked e =
       let k = knownOf h address in
@@ -181,19 +182,21 @@ module _ (h : HeadEnd) (bad len : ℕ) (s : Found) (address : ℕ) (digest : Boo
       let a₃ = both (headFits h && recordsFit h bad len && addressFits address) (saidFits (r .fields .said)) (a₄ .0) in
       let a₂ = both (headFits h && recordsFit h bad len) (addressFits address) (a₃ .0) in
       let a₁ = both (headFits h) (recordsFit h bad len) (a₂ .0) in
-      let b₃ = both (leb 342 lent && leb 1 key && leb key 256) (leb (h .used) len) (q .1 .0) in
+      let b₄ = both (leb 342 lent && leb 1 key && leb key 256 && keys) (leb (h .used) len) (q .1 .0) in
+      let b₃ = both (leb 342 lent && leb 1 key && leb key 256) keys (b₄ .0) in
       let b₂ = both (leb 342 lent && leb 1 key) (leb key 256) (b₃ .0) in
       let b₁ = both (leb 342 lent) (leb 1 key) (b₂ .0) in
       record {
         fits = a₁ .0;
-        records-fit = records-in h bad len (a₁ .1) (leb-true _ _ (b₃ .1));
+        records-fit = records-in h bad len (a₁ .1) (leb-true _ _ (b₄ .1));
         address-fits = a₂ .1;
         said-fits = a₃ .1;
         record-suits = a₄ .1;
         answer-room = leb-true _ _ (b₁ .0);
         key-some = leb-true _ _ (b₁ .1);
         key-small = leb-true _ _ (b₂ .1);
-        records-lent = leb-true _ _ (b₃ .1);
+        keys-fit = b₃ .1;
+        records-lent = leb-true _ _ (b₄ .1);
         read = p′ .0;
         identifier = done-met last (p′ .1) .0;
       }

@@ -14,7 +14,7 @@ use Rattle.key_traffic.specs.Addresses.{saidFits, addressFits}
 use Rattle.message_rules.specs.declared.fields.Fields.{Fields}
 use Rattle.message_rules.specs.declared.fields.Reading.{Reading}
 use Rattle.message_rules.specs.Limits.{fieldsFit, authKeyFits}
-use Rattle.message_rules.specs.Writing.{messageOf, noDigest}
+use Rattle.message_digest.specs.Digest.{messageKeyFits, signedOf}
 use Rattle.headend_state.specs.declared.state.HeadEnd.{HeadEnd}
 use Rattle.headend_state.specs.declared.state.Called.{Called}
 use Rattle.headend_state.specs.declared.entries.Known.{Known}
@@ -38,50 +38,55 @@ recordSuits h len s k digest f =
 unfoldable pub identifierFits : Fields → Bool
 identifierFits f = not (eqb (f .code) 12) || eqb (f .identifier) 0
 
--- With `bad` the place of the first record out of its limits, `len` records lent, `s` what was found for the SAID, and `r` the
--- reading: 1 and 2, then 6 to 9 as the reader answers them, then 11. Of the fields to be written, question 1 asks the lives of a Key Reply and
+-- With `bad` the place of the first record out of its limits, `len` records lent, `s` what was found for the SAID, `digest` whether the
+-- message's digest holds, `keys` whether both message keys have their length, and `r` the reading: 1 and 2, then 6 to 9 as the reader answers them, then 11. Of the fields to be written, question 1 asks the lives of a Key Reply and
 -- the SAID, which is the request's own in a Key Reject; that the others are within the limits follows from the state, and the reader asks the
 -- SAID too
-unfoldable pub receiveAnswer : HeadEnd → ℕ → ℕ → Found → ℕ → Bool → Reading → ℕ → ℕ → Answer
-receiveAnswer h bad len s address digest r key lent =
+unfoldable pub receiveAnswer : HeadEnd → ℕ → ℕ → Found → ℕ → Bool → Bool → Reading → ℕ → ℕ → Answer
+receiveAnswer h bad len s address digest keys r auth lent =
     firstThen
     (record {
       refusal = OutOfLimits;
       met = headFits h && recordsFit h bad len && addressFits address && saidFits (r .fields .said) && recordSuits h len s (knownOf h address) digest (r .fields);
     }
-    ∷ record { refusal = WrongLength; met = leb 342 lent && leb 1 key && leb key 256 && leb (h .used) len }
+    ∷ record { refusal = WrongLength; met = leb 342 lent && leb 1 auth && leb auth 256 && keys && leb (h .used) len }
     ∷ [])
     (r .answer)
     (record { refusal = WrongIdentifier; met = identifierFits (r .fields) } ∷ [])
 
 -- ---- what is done
 
--- The octets of an answer; none where the code is 0
-unfoldable pub answerOctets : Fields → List ℕ → List ℕ
-answerOctets f key = cond (eqb (f .code) 0) [] (messageOf f key noDigest)
+-- The octets of an answer, with the AUTH-Key, and the digest that the message key gives; none where the code is 0
+unfoldable pub answerOctets : Fields → List ℕ → List ℕ → List ℕ
+answerOctets f auth write = cond (eqb (f .code) 0) [] (signedOf f auth write)
 
-abbrev pub calledFor : Answer → HeadEnd → Reaction → List ℕ → Called
-calledFor Done h w key = record { answer = Done; state = w .state; count = length (answerOctets (w .answer) key) }
-calledFor (Refused r) h w key = answeredCall (Refused r) h
+abbrev pub calledFor : Answer → HeadEnd → Reaction → List ℕ → List ℕ → Called
+calledFor Done h w auth write = record { answer = Done; state = w .state; count = length (answerOctets (w .answer) auth write) }
+calledFor (Refused r) h w auth write = answeredCall (Refused r) h
 
-abbrev pub writtenFor : Answer → Reaction → List ℕ → List ℕ
-writtenFor Done w key = answerOctets (w .answer) key
-writtenFor (Refused r) w key = []
+abbrev pub writtenFor : Answer → Reaction → List ℕ → List ℕ → List ℕ
+writtenFor Done w auth write = answerOctets (w .answer) auth write
+writtenFor (Refused r) w auth write = []
 
 abbrev pub reactionTo : HeadEnd → Found → ℕ → Bool → Reading → Reaction
 reactionTo h s address digest r = reactionOf h (knownOf h address) (s .held) digest (r .fields)
 
 -- What the call hands back, and what it writes at the front of the lent slice
-unfoldable pub receiveCalled : HeadEnd → ℕ → ℕ → Found → ℕ → Bool → Reading → List ℕ → ℕ → Called
-receiveCalled h bad len s address digest r key lent =
-    calledFor (receiveAnswer h bad len s address digest r (length key) lent) h (reactionTo h s address digest r) key
+unfoldable pub receiveCalled : HeadEnd → ℕ → ℕ → Found → ℕ → Bool → Bool → Reading → List ℕ → List ℕ → ℕ → Called
+receiveCalled h bad len s address digest keys r auth write lent =
+    calledFor (receiveAnswer h bad len s address digest keys r (length auth) lent) h (reactionTo h s address digest r) auth write
 
-unfoldable pub receiveWritten : HeadEnd → ℕ → ℕ → Found → ℕ → Bool → Reading → List ℕ → ℕ → List ℕ
-receiveWritten h bad len s address digest r key lent =
-    writtenFor (receiveAnswer h bad len s address digest r (length key) lent) (reactionTo h s address digest r) key
+unfoldable pub receiveWritten : HeadEnd → ℕ → ℕ → Found → ℕ → Bool → Bool → Reading → List ℕ → List ℕ → ℕ → List ℕ
+receiveWritten h bad len s address digest keys r auth write lent =
+    writtenFor (receiveAnswer h bad len s address digest keys r (length auth) lent) (reactionTo h s address digest r) auth write
+
+-- Both message keys have their length
+abbrev pub keysFit : List ℕ → List ℕ → Bool
+keysFit read write = messageKeyFits read && messageKeyFits write
 
 -- What writing an answer asks; `AnswerFits` shows that an answer to a message that is taken has it
-pub record Writable (f : Fields) (key : List ℕ) (lent : ℕ) : Type 0 where
+pub record Writable (f : Fields) (auth write : List ℕ) (lent : ℕ) : Type 0 where
   pub fields : eqb (f .code) 0 ≡ false → fieldsFit f ≡ true
-  pub auth-key : authKeyFits f (length key) ≡ true
-  pub short : eqb (f .code) 0 ≡ false → length (messageOf f key noDigest) ≤ lent
+  pub auth-key : authKeyFits f (length auth) ≡ true
+  pub message-key : length write ≡ 20
+  pub short : eqb (f .code) 0 ≡ false → length (signedOf f auth write) ≤ lent

@@ -4,7 +4,8 @@ ghost use lib.ListN.{length};
 ghost use Rattle.key_traffic.specs.Octets.{overlay};
 ghost use Rattle.message_rules.specs.declared.fields.Receiver.the-variants.{HeadEnd as AtHeadEnd};
 ghost use Rattle.message_rules.specs.Reading.{readOf};
-ghost use Rattle.headend_steps.specs.Receive.{recordSuits, identifierFits, receiveAnswer, answerOctets, Writable, receiveCalled, receiveWritten};
+ghost use Rattle.message_digest.specs.Digest.{digestHolds};
+ghost use Rattle.headend_steps.specs.Receive.{keysFit, recordSuits, identifierFits, receiveAnswer, answerOctets, Writable, receiveCalled, receiveWritten};
 use headend_answers::answers::key_answer;
 use headend_answers::answers::react;
 use headend_limits::limits::address_fits;
@@ -18,6 +19,8 @@ use headend_state::state::HeadEnd;
 use headend_state::state::answered;
 use key_association::record::said_fits;
 use key_association::search::Found;
+use message_digest::digest::is_digest_right;
+use message_digest::digest::message_key_fits;
 use message_reader::read::read;
 use message_rules::codes::ANSWER_OCTETS;
 use message_rules::codes::AUTH_KEY_OCTETS_MAX;
@@ -64,7 +67,8 @@ fn identifier_fits(f: Fields) -> bool
 }
 
 // All questions of the call. `bad` is the place of the first record out of its limits, `len` the number of records lent, `s` what was
-// found for the SAID, `r` the reading, and the last two are the lengths of the AUTH-Key and of the lent slice.
+// found for the SAID, `digest` whether the message's digest holds, `keys` whether both message keys have their length, `r` the reading, and the last
+// two are the lengths of the AUTH-Key and of the lent slice.
 fn receive_answer(
     h: HeadEnd,
     bad: usize,
@@ -72,11 +76,12 @@ fn receive_answer(
     s: Found,
     address: u64,
     digest: bool,
+    keys: bool,
     r: Reading,
-    key: usize,
+    auth: usize,
     lent: usize,
 ) -> Answer
-    ensures { λ a. ⌜ a ≡ receiveAnswer h bad len s address digest r key lent ⌝ }
+    ensures { λ a. ⌜ a ≡ receiveAnswer h bad len s address digest keys r auth lent ⌝ }
 {
     let f = r.fields;
     let k = entry_of(h, address);
@@ -86,8 +91,9 @@ fn receive_answer(
         & said_fits(f.said)
         & record_suits(h, len, s, k, digest, f);
     let q2 = (ANSWER_OCTETS <= lent)
-        & (AUTH_KEY_OCTETS_MIN <= key)
-        & (key <= AUTH_KEY_OCTETS_MAX)
+        & (AUTH_KEY_OCTETS_MIN <= auth)
+        & (auth <= AUTH_KEY_OCTETS_MAX)
+        & keys
         & (h.used <= len);
     let a2 = ask(q2, Refusal::WrongLength, Answer::Done);
     let first = ask(q1, Refusal::OutOfLimits, a2);
@@ -97,33 +103,53 @@ fn receive_answer(
 }
 
 // Writes an answer, where there is one; how many octets is handed back.
-pub fn put_answer(f: Fields, key: &[u8], out: &mut [u8]) -> usize
-    requires { ⌜ Writable f (now key) (length (now out)) ⌝ }
-    ensures { λ n. ⌜ (n ≡ length (answerOctets f (now (key .entry)))) × (now (out .exit) ≡ overlay (now (out .entry)) (answerOctets f (now (key .entry)))) ⌝ }
+pub fn put_answer(f: Fields, auth: &[u8], write_key: &[u8], out: &mut [u8]) -> usize
+    requires { ⌜ Writable f (now auth) (now «write_key») (length (now out)) ⌝ }
+    ensures { λ n. ⌜ (n ≡ length (answerOctets f (now (auth .entry)) (now («write_key» .entry))))
+        × (now (out .exit) ≡ overlay (now (out .entry)) (answerOctets f (now (auth .entry)) (now («write_key» .entry)))) ⌝ }
 {
     if f.code == CODE_NONE {
         return 0;
     }
-    let w = write(f, key, out);
+    let w = write(f, auth, write_key, out);
     w.count
 }
 
-// The call, with what the searches over the records found.
+// The call, with what the searches over the records found and what the reader read of the message. The message's digest is asked under `read_key`,
+// and the answer's is that of `write_key`.
 pub fn receive_called(
     h: HeadEnd,
     bad: usize,
     len: usize,
     s: Found,
     address: u64,
-    digest: bool,
+    message: &[u8],
+    read_key: &[u8],
+    write_key: &[u8],
     r: Reading,
-    key: &[u8],
+    auth: &[u8],
     out: &mut [u8],
 ) -> Called
-    ensures { λ c. ⌜ (c ≡ receiveCalled h bad len s address digest r (now (key .entry)) (length (now (out .entry))))
-        × (now (out .exit) ≡ overlay (now (out .entry)) (receiveWritten h bad len s address digest r (now (key .entry)) (length (now (out .entry))))) ⌝ }
+    ensures { λ c. ⌜ (c ≡ receiveCalled h bad len s address (digestHolds (now («read_key» .entry)) (r .digest) (now (message .entry))) (keysFit (now («read_key» .entry)) (now («write_key» .entry)))
+        r (now (auth .entry)) (now («write_key» .entry)) (length (now (out .entry))))
+        × (now (out .exit) ≡ overlay (now (out .entry)) (receiveWritten h bad len s address (digestHolds (now («read_key» .entry)) (r .digest) (now (message .entry))) (keysFit (now («read_key» .entry)) (now («write_key» .entry)))
+        r (now (auth .entry)) (now («write_key» .entry)) (length (now (out .entry))))) ⌝ }
 {
-    let a = receive_answer(h, bad, len, s, address, digest, r, key.len(), out.len());
+    let place = r.digest;
+    let digest = is_digest_right(message, place, read_key);
+    let keys = message_key_fits(read_key) & message_key_fits(write_key);
+    let a = receive_answer(
+        h,
+        bad,
+        len,
+        s,
+        address,
+        digest,
+        keys,
+        r,
+        auth.len(),
+        out.len(),
+    );
     if !is_done(a) {
         return answered(h, a);
     }
@@ -133,7 +159,7 @@ pub fn receive_called(
     let w = react(h, k, record, digest, f);
     let answer = w.answer;
     let next = w.state;
-    let n = put_answer(answer, key, out);
+    let n = put_answer(answer, auth, write_key, out);
     Called {
         answer: a,
         state: next,

@@ -1,10 +1,11 @@
 -- A message with a digest as octets: what the sum is over, and that the digest that a key gives holds under it.
 use Prim.Native.Nat.{ℕ, _+_, _-_, _≤_, _<_}
-use mathlib.Core.Path.{_≡_, refl, ap, _∙_}
-use mathlib.Core.Bool.{true, false, and-false}
+use mathlib.Core.Path.{_≡_, refl, sym, ap, _∙_}
+use mathlib.Core.Bool.{Bool, true, false, _&&_}
 use mathlib.Core.List.{List, [], _∷_, _++_, append-assoc}
 use native.Mathlib.Omega.{arith}
 use borrow.Author.Tests.{eq-eqb, ne-eqb}
+use lib.Dec.{eqb}
 use lib.ListN.{length, take, drop, length-append}
 use lib.Seq.{take-at, drop-at}
 use Rattle.digest_hmac.specs.Hmac.{hmac, holds}
@@ -17,6 +18,10 @@ use Rattle.message_rules.specs.Writing.{messageOf, noDigest}
 use Rattle.message_rules.proofs.ReadWritten.{before-digest}
 use Rattle.message_digest.specs.Digest.{coveredUpTo, digestHolds, bare, signedOf}
 
+none-held : (b : Bool) → b && false ≡ false
+none-held true = refl
+none-held false = refl
+
 -- ---- what is asked of a place that a reading gives
 module _ (key : List ℕ) (p : Place) (s : List ℕ) where
   pub no-digest : (p .len ≡ 20 → ⊥) → false ≡ digestHolds key p s
@@ -25,7 +30,7 @@ module _ (key : List ℕ) (p : Place) (s : List ℕ) where
 
   pub no-room : length s < p .start + 20 → false ≡ digestHolds key p s
   unfolding digestHolds
-  no-room h = rw (holds-short s (coveredUpTo p) key (p .start) h, and-false)
+  no-room h = sym (ap (λ (b : Bool). eqb (p .len) 20 && b) (holds-short s (coveredUpTo p) key (p .start) h) ∙ none-held (eqb (p .len) 20))
 
   pub asked : p .len ≡ 20 → holds s (coveredUpTo p) key (p .start) ≡ digestHolds key p s
   unfolding digestHolds

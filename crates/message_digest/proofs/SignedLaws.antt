@@ -2,7 +2,7 @@
 -- digest that a key gives, and, where its own holds under it, octet for octet.
 use Prim.Native.Nat.{ℕ, _+_, _-_, _≤_}
 use mathlib.Core.Path.{_≡_, refl, sym, ap, _∙_}
-use mathlib.Core.Bool.{true, false}
+use mathlib.Core.Bool.{Bool, true, false, cond}
 use mathlib.Core.List.{List, [], _∷_, _++_, append-nil, append-assoc}
 use native.Mathlib.Omega.{arith}
 use borrow.Author.Tests.{eqb-true}
@@ -32,8 +32,8 @@ use Rattle.message_rules.proofs.TakenLaws.{taken, first-fits}
 use Rattle.message_rules.proofs.ReadFits.{reader-fits, read-shaped}
 use Rattle.message_rules.proofs.WrittenRead.{keyPlace, digestPlace, written-read}
 use Rattle.message_rules.proofs.ReadWritten.{read-written-digest, without-digest}
-use Rattle.message_rules.proofs.ReadCall.{key-length}
-use Rattle.message_digest.specs.Digest.{coveredUpTo, digestHolds, bare, signedOf}
+use Rattle.message_rules.proofs.KeyPlace.{key-length}
+use Rattle.message_digest.specs.Digest.{coveredUpTo, digestHolds, bare, signedOf, digestFilled}
 use Rattle.message_digest.proofs.DigestLaws.{asked, front, written-is, signed-is, signed-right, front-taken, digest-taken}
 
 -- ---- written, then read
@@ -54,6 +54,28 @@ signed-holds f auth key padding s e k h =
     let place : readOf (receiverOf (f .code)) (signedOf f auth key ++ padding) .digest ≡ record { start = length (signedOf f auth key) - 20; len = 20 } =
     ap (λ (r : Reading). r .digest) (signed-read f auth key padding s e k) ∙ rw h refl in
     rw place (signed-right f auth (t .low) (t .high) h key padding)
+
+-- Where the code carries no digest, the key makes no difference
+pub without-signed : (f : Fields) (auth key : List ℕ) → 4 ≤ f .code → f .code ≤ 12 → isRequired (f .code) 11 ≡ false → messageOf f auth noDigest ≡ signedOf f auth key
+unfolding signedOf
+without-signed f auth key low high h = without-digest f auth noDigest (hmac key (bare f auth)) low high h
+
+-- The digest makes no difference to the length
+pub signed-length : (f : Fields) (auth key : List ℕ) → 4 ≤ f .code → f .code ≤ 12 → length (signedOf f auth key) ≡ length (messageOf f auth noDigest)
+signed-length f auth key low high = go (isRequired (f .code) 11) refl
+  where
+    go : (b : Bool) → isRequired (f .code) 11 ≡ b → length (signedOf f auth key) ≡ length (messageOf f auth noDigest)
+    go true h =
+        let p = front f auth low high h in
+        omega (
+          arith,
+          ap length (signed-is f auth low high h key),
+          length-append p (11 ∷ 0 ∷ 20 ∷ hmac key p),
+          length-hmac key p,
+          ap length (written-is f auth low high h noDigest refl),
+          length-append p (11 ∷ 0 ∷ 20 ∷ noDigest),
+        )
+    go false h = ap length (sym (without-signed f auth key low high h))
 
 -- ---- filled in: the message with zeros stands at the front of a slice, and the digest is stored over them
 fill-octets : (p digest rest : List ℕ) → length digest ≡ 20
@@ -89,6 +111,20 @@ signed-filled f auth key lent low high h =
     ap (λ (m : List ℕ). take (length p) (m ++ rest)) zeros ∙ front-taken p noDigest rest refl in
     rw (at, up, front′, long)
     (ap (λ (m : List ℕ). sets (m ++ rest) (length p + 3) d) zeros ∙ fill-octets p d rest n ∙ ap (λ (m : List ℕ). m ++ rest) (sym (signed-is f auth low high h key)))
+
+-- So whatever the code: where it carries no digest, the octets in its place make no difference
+pub stored-signed : (f : Fields) (auth key lent : List ℕ) → 4 ≤ f .code → f .code ≤ 12
+    → digestFilled (f .code) key (length (messageOf f auth noDigest)) (overlay lent (messageOf f auth noDigest)) ≡ overlay lent (signedOf f auth key)
+unfolding digestFilled
+stored-signed f auth key lent low high = go (isRequired (f .code) 11) refl
+  where
+    m : List ℕ
+    m = messageOf f auth noDigest
+
+    go : (b : Bool) → isRequired (f .code) 11 ≡ b
+        → cond b (filled (overlay lent m) (length m - 23) key (length m - 20)) (overlay lent m) ≡ overlay lent (signedOf f auth key)
+    go true h = signed-filled f auth key lent low high h
+    go false h = ap (overlay lent) (without-signed f auth key low high h)
 
 -- ---- read, then written
 answered : (a : Answer) (s : List ℕ) → readingFor a s .answer ≡ a
@@ -148,6 +184,9 @@ module _ (e : Receiver) (s : List ℕ) (o : Octets s) (d : readerAnswer e s ≡ 
 
     s-is : s ≡ before ++ (11 ∷ 0 ∷ 20 ∷ digest)
     s-is = sym again ∙ written-is own auth low high h digest wide
+
+    pub long-enough : 23 ≤ length s
+    long-enough = omega (arith, ap length s-is, length-append before (11 ∷ 0 ∷ 20 ∷ digest), wide)
 
     -- Written again under a key, it has the digest that the key gives over the octets before the digest attribute
     pub read-signed : (key : List ℕ) → signedOf own auth key ≡ take (length s - 20) s ++ hmac key (take (length s - 23) s)

@@ -20,4 +20,4 @@ pub mod TakenLaws
 pub mod ReadFits
 pub mod ItemsRead
 pub mod ReadWritten
-pub mod ReadCall
+pub mod KeyPlace

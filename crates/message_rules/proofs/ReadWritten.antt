@@ -1,4 +1,4 @@
--- An accepted message in the standard order, written again from what was read of it: the same octets, with the digest set to zeros.
+-- An accepted message in the standard order, written again from what was read of it with its own digest: the same octets; and where a digest stands.
 use Prim.Native.Nat.{ℕ, _+_, _*_, _-_, _≤_}
 use mathlib.Core.Path.{_≡_, refl, sym, ap, _∙_}
 use mathlib.Core.List.{List, [], _∷_, _++_, append-nil, append-assoc}
@@ -17,8 +17,8 @@ use Rattle.message_rules.specs.Ranges.{requiredOf, among, isRequired, fi
 use Rattle.message_rules.specs.Messages.{codeOf, identifierOf, lengthOf, bodyOf, messageAnswer}
 use Rattle.message_rules.specs.Fields.{fieldsOf}
 use Rattle.message_rules.specs.Reading.{placeOf, takenOf}
-use Rattle.message_rules.specs.Standard.{ordered, insidesOrdered, standard, digestZeroed}
-use Rattle.message_rules.specs.Writing.{paramsItems, itemsOfType, itemsOfTypes, itemsOf, message, messageOf, noDigest}
+use Rattle.message_rules.specs.Standard.{ordered, insidesOrdered, standard}
+use Rattle.message_rules.specs.Writing.{paramsItems, itemsOfType, itemsOfTypes, itemsOf, message, messageOf}
 use Rattle.message_rules.proofs.AttributesLaws.{Octets, Whole, octets-take, octets-drop, octet-below, spell, octets-items}
 use Rattle.message_rules.proofs.HoldsLaws.{never, octets-append, all-whole, start-value}
 use Rattle.message_rules.proofs.CodesLaws.{by-code}
@@ -70,18 +70,6 @@ fronted c i r digest n =
     let m : length (octets (r ++ (attr 11 digest ∷ []))) ≡ length (octets r) + 23 =
     ap length o ∙ rw (length-append (octets r) (11 ∷ (two 20 ++ digest)), length-append (two 20) digest, n) refl in
     rw (m, o) (simp append-assoc)
-
-zeroed-last : (p digest : List ℕ) → length digest ≡ 20 → take (length (p ++ digest) - 20) (p ++ digest) ++ replicate 20 0 ≡ p ++ replicate 20 0
-zeroed-last p digest n = ap (λ (l : List ℕ). l ++ replicate 20 0) (take-at p digest (length (p ++ digest) - 20) (omega (arith, length-append p digest)))
-
--- a message written with a digest of 20 octets, and with zeros in its place
-written-zeroed : (f : Fields) (key digest : List ℕ) → 4 ≤ f .code → f .code ≤ 12 → isRequired (f .code) 11 ≡ true → length digest ≡ 20
-    → take (length (messageOf f key digest) - 20) (messageOf f key digest) ++ replicate 20 0 ≡ messageOf f key noDigest
-unfolding messageOf
-written-zeroed f key digest low high h n =
-    let r = ends f key low high h in
-    rw (r .1 digest, r .1 noDigest, fronted (f .code) (f .identifier) (r .0) digest n, fronted (f .code) (f .identifier) (r .0) noDigest refl)
-    (zeroed-last (beforeDigest (f .code) (f .identifier) (r .0)) digest n)
 
 -- Written with any digest of 20 octets, a message that carries one is the same octets, the head of the digest attribute, and the digest
 pub before-digest : (f : Fields) (key : List ℕ) → 4 ≤ f .code → f .code ≤ 12 → isRequired (f .code) 11 ≡ true
@@ -186,27 +174,8 @@ module _ (e : Receiver) (s : List ℕ) (o : Octets s) (d : messageAnswer e s ≡
       ∙ ap (message (codeOf s) (identifierOf s)) body-again
       ∙ message-again s o (parts .0)
 
-  zeroed : messageOf (fieldsOf (codeOf s) (identifierOf s) l) key noDigest ≡ digestZeroed s
-  unfolding digestZeroed fieldsOf fits messageOf
-  zeroed = go (isRequired (codeOf s) 11) refl
-    where
-      F : Fields
-      F = fieldsOf (codeOf s) (identifierOf s) l
-
-      go : (b : Bool) → isRequired (codeOf s) 11 ≡ b → messageOf F key noDigest ≡ cond b (take (length s - 20) s ++ replicate 20 0) s
-      go true h =
-          sym (written-zeroed F key digest (taken e s d .low) (taken e s d .high) h (eqb-true (length digest) 20 (first-fits (codeOf s) l (taken e s d) 11 refl refl h)))
-          ∙ ap (λ (m : List ℕ). take (length m - 20) m ++ replicate 20 0) again
-      go false h = ap (λ (m : List Item). message (codeOf s) (identifierOf s) (octets m)) (ends-not F key (taken e s d .low) (taken e s d .high) h noDigest digest) ∙ again
-
--- An accepted message in the standard order is written again from its fields and its AUTH-Key, with its own digest ..
+-- An accepted message in the standard order is written again from its fields and its AUTH-Key, with its own digest
 pub read-written-digest : (e : Receiver) (s : List ℕ) → Octets s → messageAnswer e s ≡ Done → standard s ≡ true
     → messageOf (takenOf s .fields) (take (takenOf s .key .len) (drop (takenOf s .key .start) s)) (valueAt 11 0 (items (bodyOf s))) ≡ s
 unfolding takenOf
 read-written-digest e s o d st = again e s o d st
-
--- .. and with zeros for its digest
-pub read-written : (e : Receiver) (s : List ℕ) → Octets s → messageAnswer e s ≡ Done → standard s ≡ true
-    → messageOf (takenOf s .fields) (take (takenOf s .key .len) (drop (takenOf s .key .start) s)) noDigest ≡ digestZeroed s
-unfolding takenOf
-read-written e s o d st = zeroed e s o d st

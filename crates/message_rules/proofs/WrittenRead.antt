@@ -2,27 +2,23 @@
 use Prim.Native.Nat.{ℕ, _+_, _-_, _≤_}
 use mathlib.Core.Path.{_≡_, refl, sym, ap, _∙_}
 use mathlib.Core.List.{List, [], _∷_, _++_}
-use mathlib.Core.Bool.{Bool, true, false, cond, _&&_}
-use lib.Dec.{leb}
+use mathlib.Core.Bool.{Bool, true, false, cond}
 use lib.ListN.{length, getD, take, drop, length-append}
 use lib.Seq.{take-at}
 use native.Mathlib.Omega.{arith}
 use borrow.Author.Tests.{le-leb}
 use Rattle.questions.specs.declared.refusal.Answer.the-variants.{Done}
-use Rattle.questions.specs.declared.refusal.Refusal.the-variants.{OutOfLimits, WrongLength}
-use Rattle.questions.specs.Questions.{firstNo}
-use Rattle.questions.proofs.TestLaws.{both}
 use Rattle.message_rules.specs.declared.fields.Fields.{Fields}
 use Rattle.message_rules.specs.declared.fields.Place.{Place}
 use Rattle.message_rules.specs.Attributes.{items, values, countOf, valueAt, startFrom, two, octets}
 use Rattle.message_rules.specs.Ranges.{requiredOf, among, isRequired, good, sound}
 use Rattle.message_rules.specs.Messages.{lengthOf, bodyOf, isWhole, receives, receiverOf, messageAnswer, readerAnswer}
-use Rattle.message_rules.specs.Reading.{noPlace, placeOf, takenOf, readOf, readerOf}
+use Rattle.message_rules.specs.Reading.{noPlace, placeOf, takenOf, readOf}
 use Rattle.message_rules.specs.Limits.{fieldsFit, authKeyFits}
-use Rattle.message_rules.specs.Writing.{itemsOfType, itemsOfTypes, itemsOf, message, messageOf, writeOf, writtenOf, writeQuestions, noDigest}
+use Rattle.message_rules.specs.Writing.{itemsOfType, itemsOfTypes, itemsOf, message, messageOf}
 use Rattle.message_rules.proofs.AttributesLaws.{items-octets}
 use Rattle.message_rules.proofs.HoldsLaws.{never, length-attr, all-whole, start-value}
-use Rattle.message_rules.proofs.MessageAnswers.{answer-done, reader-done, reader-reads}
+use Rattle.message_rules.proofs.MessageAnswers.{answer-done, reader-done}
 use Rattle.message_rules.proofs.CodesLaws.{by-code}
 use Rattle.message_rules.proofs.FieldsFit.{Shaped, Fit, fit}
 use Rattle.message_rules.proofs.WrittenBody.{mostOctets, short, all-good, body-most, body-fits, all-complete}
@@ -147,7 +143,7 @@ module _ (f : Fields) (key digest : List ℕ) (s : Shaped f) (t : Fit f key) (n 
     back = rw (taken, code-is, identifier-is, items-are, fields-back f key digest s t, key-back, digest-back)
 
     -- the reader by itself takes it too
-    reader-takes : readerAnswer (receiverOf (f .code)) (messageOf f key digest ++ padding) ≡ Done
+    pub reader-takes : readerAnswer (receiverOf (f .code)) (messageOf f key digest ++ padding) ≡ Done
     reader-takes = reader-done (receiverOf (f .code)) (messageOf f key digest ++ padding) .1 (taken, rw (code-is, identifier-is) (t .required))
 
     key-taken : takenOf (messageOf f key digest ++ padding) .key ≡ keyPlace f key
@@ -203,47 +199,3 @@ written-12 f key digest s e k n c =
     let l = written-lengths f key digest s e k n in
     let most : mostOctets (f .code) ≡ 4 = ap mostOctets c in
     omega arith
-
--- ---- the same of the writer's call, with zeros for the digest
-both-met : (a b : Bool) → firstNo (record { refusal = OutOfLimits; met = a } ∷ record { refusal = WrongLength; met = b } ∷ []) ≡ Done → (a ≡ true) × (b ≡ true)
-both-met true true e = (refl, refl)
-both-met true false e = let z : _≡_ {A = ℕ} 0 1 = cc in absurd (omega arith)
-both-met false b e = let z : _≡_ {A = ℕ} 0 1 = cc in absurd (omega arith)
-
--- a call that is done: its questions are met, and it wrote the message
-pub call-asked : (f : Fields) (key : List ℕ) (lent : ℕ) → writeOf f key lent .answer ≡ Done
-    → (fieldsFit f ≡ true) × (authKeyFits f (length key) ≡ true) × (writtenOf f key lent ≡ messageOf f key noDigest)
-unfolding writeOf writtenOf writeQuestions
-call-asked f key lent done =
-    let asked = both-met (fieldsFit f) (authKeyFits f (length key) && leb (length (messageOf f key noDigest)) lent) done in
-    let second = both (authKeyFits f (length key)) (leb (length (messageOf f key noDigest)) lent) (asked .1) in
-    (asked .0, second .0, rw done)
-
--- What it writes is read back, also with padding behind
-pub call-read : (f : Fields) (key padding : List ℕ) (lent : ℕ) → Shaped f → writeOf f key lent .answer ≡ Done
-    → readOf (receiverOf (f .code)) (writtenOf f key lent ++ padding)
-    ≡ record { answer = Done; fields = f; key = keyPlace f key; digest = digestPlace f key noDigest }
-call-read f key padding lent s done =
-    let a = call-asked f key lent done in
-    rw (a .2) (written-read f key noDigest padding s (a .0) (a .1) refl)
-
--- by the reader by itself too
-pub call-reader : (f : Fields) (key padding : List ℕ) (lent : ℕ) → Shaped f → writeOf f key lent .answer ≡ Done
-    → (readerAnswer (receiverOf (f .code)) (writtenOf f key lent ++ padding) ≡ Done)
-    × (readerOf (receiverOf (f .code)) (writtenOf f key lent ++ padding)
-    ≡ record { answer = Done; fields = f; key = keyPlace f key; digest = digestPlace f key noDigest })
-call-reader f key padding lent s done =
-    let a = call-asked f key lent done in
-    let e = receiverOf (f .code) in
-    let m = writtenOf f key lent ++ padding in
-    let takes : readerAnswer e m ≡ Done = rw (a .2) (reader-takes f key noDigest s (fit f key (a .0) (a .1)) refl padding) in
-    (takes, reader-reads e m takes ∙ call-read f key padding lent s done)
-
--- and so is the AUTH-Key
-pub call-key : (f : Fields) (key padding : List ℕ) (lent : ℕ) → Shaped f → writeOf f key lent .answer ≡ Done → isRequired (f .code) 7 ≡ true
-    → take (readOf (receiverOf (f .code)) (writtenOf f key lent ++ padding) .key .len)
-    (drop (readOf (receiverOf (f .code)) (writtenOf f key lent ++ padding) .key .start) (writtenOf f key lent ++ padding))
-    ≡ key
-call-key f key padding lent s done h =
-    let a = call-asked f key lent done in
-    rw (call-read f key padding lent s done, h, a .2) (key-read f key noDigest padding s (a .0) (a .1) refl h)

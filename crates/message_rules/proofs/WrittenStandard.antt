@@ -6,7 +6,6 @@ use mathlib.Core.Bool.{true}
 use lib.ListN.{length, take, replicate}
 use native.Mathlib.Omega.{arith}
 use borrow.Author.Tests.{eq-eqb}
-use Rattle.questions.specs.declared.refusal.Answer.the-variants.{Done}
 use Rattle.message_rules.specs.declared.fields.Descriptor.{Descriptor}
 use Rattle.message_rules.specs.declared.fields.Fields.{Fields}
 use Rattle.message_rules.specs.Attributes.{items, values, countOf, octets}
@@ -14,13 +13,13 @@ use Rattle.message_rules.specs.Ranges.{requiredOf}
 use Rattle.message_rules.specs.Messages.{codeOf, lengthOf, bodyOf}
 use Rattle.message_rules.specs.Limits.{fieldsFit, authKeyFits}
 use Rattle.message_rules.specs.Standard.{typesOf, orderOf, sameTypes, ordered, insidesOrdered, standard}
-use Rattle.message_rules.specs.Writing.{paramsItems, descriptorItems, descriptorsItems, itemsOfType, itemsOfTypes, itemsOf, message, messageOf, noDigest, writtenOf, writeOf}
+use Rattle.message_rules.specs.Writing.{paramsItems, descriptorItems, descriptorsItems, itemsOfType, itemsOfTypes, itemsOf, message, messageOf}
 use Rattle.message_rules.proofs.CodesLaws.{by-code}
 use Rattle.message_rules.proofs.PartsWritten.{params-items, descriptor-items}
 use Rattle.message_rules.proofs.DescriptorsWritten.{insides, values-descriptors, values-no-descriptor, length-insides}
 use Rattle.message_rules.proofs.FieldsFit.{Shaped, Fit, fit}
 use Rattle.message_rules.proofs.WrittenBody.{body-fits}
-use Rattle.message_rules.proofs.WrittenRead.{length-back, length-message, items-are, call-asked}
+use Rattle.message_rules.proofs.WrittenRead.{length-back, length-message, items-are}
 
 types-same : (xs : List ℕ) → sameTypes xs xs ≡ true
 unfolding sameTypes
@@ -114,9 +113,3 @@ written-standard f key digest s e k n =
       types-are f key digest s t,
       types-same (orderOf (λ k. countOf k (itemsOf f key digest)) (requiredOf (f .code))),
     )
-
--- The same of the writer's call
-pub call-standard : (f : Fields) (key : List ℕ) (lent : ℕ) → Shaped f → writeOf f key lent .answer ≡ Done → standard (writtenOf f key lent) ≡ true
-call-standard f key lent s done =
-    let a = call-asked f key lent done in
-    rw (a .2) (written-standard f key noDigest s (a .0) (a .1) refl)

@@ -40,7 +40,3 @@ standard s =
     && ordered (codeOf s) (items (bodyOf s))
     && insidesOrdered 13 (values 13 (items (bodyOf s)))
     && insidesOrdered 23 (values 23 (items (bodyOf s)))
-
--- A message in standard order with its digest set to zeros: the digest is its last 20 octets
-unfoldable pub digestZeroed : List ℕ → List ℕ
-digestZeroed s = cond (isRequired (codeOf s) 11) (take (length s - 20) s ++ replicate 20 0) s

@@ -1,21 +1,15 @@
 -- What the writer writes: the needed attributes in the standard order (document 01, "Messages").
-use Prim.Native.Nat.{ℕ, _+_}
+use Prim.Native.Nat.{ℕ}
 use mathlib.Core.List.{List, [], _∷_, _++_}
-use mathlib.Core.Bool.{_&&_, cond}
+use mathlib.Core.Bool.{cond}
 use lib.ListN.{length, take, replicate}
-use lib.Dec.{leb, eqb}
-use Rattle.questions.specs.declared.refusal.Answer.{Answer}
-use Rattle.questions.specs.declared.refusal.Answer.the-variants.{Done, Refused}
-use Rattle.questions.specs.declared.refusal.Refusal.the-variants.{OutOfLimits, WrongLength}
-use Rattle.questions.specs.Questions.{Question, firstNo}
+use lib.Dec.{eqb}
 use Rattle.message_rules.specs.declared.fields.KeyOctets.{KeyOctets}
 use Rattle.message_rules.specs.declared.fields.Params.{Params}
 use Rattle.message_rules.specs.declared.fields.Descriptor.{Descriptor}
 use Rattle.message_rules.specs.declared.fields.Fields.{Fields}
-use Rattle.message_rules.specs.declared.fields.Writing.{Writing}
 use Rattle.message_rules.specs.Attributes.{Item, attr, octets, two, four}
 use Rattle.message_rules.specs.Ranges.{Required, requiredOf}
-use Rattle.message_rules.specs.Limits.{fieldsFit, authKeyFits}
 
 abbrev pub ownOctets : KeyOctets → List ℕ
 ownOctets k = take (k .width) (k .octets)
@@ -60,24 +54,6 @@ message code identifier body = code ∷ identifier ∷ (two (length body) ++ bod
 unfoldable pub messageOf : Fields → List ℕ → List ℕ → List ℕ
 messageOf f key digest = message (f .code) (f .identifier) (octets (itemsOf f key digest))
 
--- The digest is written as zeros
+-- The octets that stand in the digest's place until it is worked out
 abbrev pub noDigest : List ℕ
 noDigest = replicate 20 0
-
--- ---- the call: question 1 of the fields, question 2 of the AUTH-Key and of the lent slice
-unfoldable pub writeQuestions : Fields → List ℕ → ℕ → List Question
-writeQuestions f key lent =
-    record { refusal = OutOfLimits; met = fieldsFit f }
-    ∷ record { refusal = WrongLength; met = authKeyFits f (length key) && leb (length (messageOf f key noDigest)) lent }
-    ∷ []
-
-abbrev pub writtenFor : Answer → List ℕ → List ℕ
-writtenFor Done message = message
-writtenFor (Refused r) message = []
-
--- What is written at the front of the lent slice
-unfoldable pub writtenOf : Fields → List ℕ → ℕ → List ℕ
-writtenOf f key lent = writtenFor (firstNo (writeQuestions f key lent)) (messageOf f key noDigest)
-
-unfoldable pub writeOf : Fields → List ℕ → ℕ → Writing
-writeOf f key lent = record { answer = firstNo (writeQuestions f key lent); count = length (writtenOf f key lent) }

@@ -1,11 +1,14 @@
-// The call: question 1 of the fields, question 2 of the AUTH-Key and of the lent slice, then the message.
+// The call: question 1 of the fields, question 2 of the AUTH-Key, of the message key and of the lent slice, then the message with its digest.
 ghost use mathlib.Core.Path.{_≡_};
 ghost use lib.ListN.{length};
+ghost use Rattle.questions.specs.declared.refusal.Answer.the-variants.{Refused};
 ghost use Rattle.key_traffic.specs.Octets.{overlay};
-ghost use Rattle.message_rules.specs.Writing.{writeOf, writtenOf};
+ghost use Rattle.message_digest.specs.Written.{writeOf, writtenOf};
 use crate::limits::auth_key_fits;
 use crate::limits::fields_fit;
 use crate::message::put_message;
+use message_digest::digest::message_key_fits;
+use message_digest::digest::store_digest;
 use message_parts::lengths::body_len;
 use message_rules::codes::DIGEST_OCTETS;
 use message_rules::codes::HEAD_OCTETS;
@@ -14,33 +17,37 @@ use message_rules::fields::Writing;
 use questions::refusal::Answer;
 use questions::refusal::Refusal;
 
-// Writes the message of the fields at the front of `out`, with zeros for the digest's octets. `key` is the AUTH-Key's octets, which
-// an Authorization Reply carries. Where it refuses, nothing is written.
-pub fn write(f: Fields, key: &[u8], out: &mut [u8]) -> Writing
-    ensures { λ r. ⌜ (r ≡ writeOf f (now (key .entry)) (length (now (out .entry)))) × (now (out .exit) ≡ overlay (now (out .entry)) (writtenOf f (now (key .entry)) (length (now (out .entry))))) ⌝ }
+fn refused(r: Refusal) -> Writing
+    ensures { λ w. ⌜ w ≡ record { answer = Refused r; count = 0 } ⌝ }
+{
+    Writing {
+        answer: Answer::Refused(r),
+        count: 0,
+    }
+}
+
+// Writes the message of the fields at the front of `out`, with the digest that `key` gives where the code carries one. `auth` is the AUTH-Key's
+// octets, which an Authorization Reply carries. Where it refuses, nothing is written.
+pub fn write(f: Fields, auth: &[u8], key: &[u8], out: &mut [u8]) -> Writing
+    ensures { λ r. ⌜ (r ≡ writeOf f (now (auth .entry)) (now (key .entry)) (length (now (out .entry))))
+        × (now (out .exit) ≡ overlay (now (out .entry)) (writtenOf f (now (auth .entry)) (now (key .entry)) (length (now (out .entry))))) ⌝ }
 {
     if !fields_fit(f) {
-        return Writing {
-            answer: Answer::Refused(Refusal::OutOfLimits),
-            count: 0,
-        };
+        return refused(Refusal::OutOfLimits);
     }
-    if !auth_key_fits(f, key.len()) {
-        return Writing {
-            answer: Answer::Refused(Refusal::WrongLength),
-            count: 0,
-        };
+    if !auth_key_fits(f, auth.len()) {
+        return refused(Refusal::WrongLength);
     }
-    let body = body_len(f, key);
-    let whole = HEAD_OCTETS + body;
+    if !message_key_fits(key) {
+        return refused(Refusal::WrongLength);
+    }
+    let whole = HEAD_OCTETS + body_len(f, auth);
     if out.len() < whole {
-        return Writing {
-            answer: Answer::Refused(Refusal::WrongLength),
-            count: 0,
-        };
+        return refused(Refusal::WrongLength);
     }
     let digest = [0u8; DIGEST_OCTETS];
-    let count = put_message(f, key, &digest, out);
+    let count = put_message(f, auth, &digest, out);
+    store_digest(f.code, key, count, out);
     Writing {
         answer: Answer::Done,
         count: count,

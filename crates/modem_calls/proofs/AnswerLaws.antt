@@ -2,9 +2,9 @@
 use mathlib.Core.Path.{_≡_, refl, sym, _∙_, ap, subst}
 use mathlib.Core.Bool.{Bool, true, false, cond, _&&_}
 use mathlib.Core.List.{List, [], _∷_, _++_}
-use Prim.Native.Nat.{ℕ, _≤_, _<_}
+use Prim.Native.Nat.{ℕ}
 use native.Mathlib.Omega.{arith}
-use borrow.Author.Tests.{le-leb, lt-leb}
+use lib.Dec.{leb}
 use Rattle.questions.specs.declared.refusal.Answer.{Answer}
 use Rattle.questions.specs.declared.refusal.Answer.the-variants.{Done, Refused}
 use Rattle.questions.specs.declared.refusal.Refusal.{Refusal}
@@ -17,12 +17,15 @@ use Rattle.message_rules.specs.declared.fields.Receiver.{Receiver}
 use Rattle.message_rules.specs.declared.fields.Receiver.the-variants.{Modem as AtModem}
 use Rattle.message_rules.specs.declared.fields.Reading.{Reading}
 use Rattle.message_rules.specs.Messages.{isWhole, question7, question8, question9, messageQuestions, messageAnswer}
-use Rattle.message_rules.specs.Reading.{readOf}
+use Rattle.message_rules.specs.declared.fields.Fields.{Fields}
+use Rattle.message_rules.specs.declared.fields.Place.{Place}
+use Rattle.message_rules.specs.Reading.{takenOf, readOf}
+use Rattle.message_digest.specs.Digest.{digestHolds}
 use Rattle.message_rules.proofs.MessageAnswers.{read-answer}
 use Rattle.modem_steps.specs.declared.state.Modem.{Modem}
 use Rattle.modem_steps.specs.declared.state.Progress.{Progress}
 use Rattle.modem_steps.specs.declared.state.Called.{Called}
-use Rattle.modem_receive.specs.Receive.{widthsFit, saidKnown, identifierFits, digestHolds, receiveQuestions, fieldsIn}
+use Rattle.modem_receive.specs.Receive.{widthsFit, saidKnown, identifierFits, digestHolds as question12, receiveQuestions, fieldsIn}
 use Rattle.modem_limits.specs.Limits.{modemFits}
 use Rattle.modem_steps.specs.State.{starting}
 use Rattle.modem_steps.specs.Machine.{plainEvent}
@@ -30,32 +33,40 @@ use Rattle.modem_calls.specs.Messages.{outOctets, OutFits}
 use Rattle.modem_calls.specs.Calls.{resultOf, refusedCall, answeredCall, doneCall, firstQuestions}
 
 -- ---- what is given for an answer
-module _ (m : Modem) (lent : List ℕ) (answer : Answer) (w : Progress) where
-  pub refused-by : (r : Refusal) (c : Called) → answer ≡ Refused r → c ≡ refusedCall r m → (c ≡ resultOf answer m w .called) × (lent ≡ overlay lent (resultOf answer m w .written))
+module _ (m : Modem) (lent : List ℕ) (answer : Answer) (key : List ℕ) (w : Progress) where
+  pub refused-by : (r : Refusal) (c : Called) → answer ≡ Refused r → c ≡ refusedCall r m → (c ≡ resultOf answer m key w .called) × (lent ≡ overlay lent (resultOf answer m key w .written))
   refused-by r c e ec = rw e (ec, refl)
 
-  pub done-by : (v : Progress) (c : Called) (after : List ℕ) → answer ≡ Done → v ≡ w → c ≡ doneCall v → after ≡ overlay lent (outOctets (v .out))
-      → (c ≡ resultOf answer m w .called) × (after ≡ overlay lent (resultOf answer m w .written))
-  done-by v c after e ev ec ea = rw e (ec ∙ ap doneCall ev, ea ∙ ap (λ (x : Progress). overlay lent (outOctets (x .out))) ev)
+  pub done-by : (v : Progress) (c : Called) (after : List ℕ) → answer ≡ Done → v ≡ w → c ≡ doneCall key v → after ≡ overlay lent (outOctets key (v .out))
+      → (c ≡ resultOf answer m key w .called) × (after ≡ overlay lent (resultOf answer m key w .written))
+  done-by v c after e ev ec ea = rw e (ec ∙ ap (doneCall key) ev, ea ∙ ap (λ (x : Progress). overlay lent (outOctets key (x .out))) ev)
 
 -- a refusal of the reader's is handed on as it is
-pub handed-on : (m : Modem) (lent : List ℕ) (w : Progress) (read answer : Answer) (c : Called) → isDone read ≡ false → ((r : Refusal) → read ≡ Refused r → answer ≡ Refused r)
-    → c ≡ answeredCall read m → (c ≡ resultOf answer m w .called) × (lent ≡ overlay lent (resultOf answer m w .written))
-handed-on m lent w Done answer c e same ec = let z : _≡_ {A = ℕ} 0 1 = cc in absurd (omega arith)
-handed-on m lent w (Refused r) answer c e same ec = rw (same r refl) (ec, refl)
+pub handed-on : (m : Modem) (lent key : List ℕ) (w : Progress) (read answer : Answer) (c : Called) → isDone read ≡ false → ((r : Refusal) → read ≡ Refused r → answer ≡ Refused r)
+    → c ≡ answeredCall read m → (c ≡ resultOf answer m key w .called) × (lent ≡ overlay lent (resultOf answer m key w .written))
+handed-on m lent key w Done answer c e same ec = let z : _≡_ {A = ℕ} 0 1 = cc in absurd (omega arith)
+handed-on m lent key w (Refused r) answer c e same ec = rw (same r refl) (ec, refl)
 
 -- ---- questions 1 and 2, before any others
-module _ (m : Modem) (lent : ℕ) (qs : List Question) where
-  pub limits-no : modemFits m ≡ false → firstNo (firstQuestions m lent ++ qs) ≡ Refused OutOfLimits
+module _ (m : Modem) (keys : Bool) (lent : ℕ) (qs : List Question) where
+  pub limits-no : modemFits m ≡ false → firstNo (firstQuestions m keys lent ++ qs) ≡ Refused OutOfLimits
   limits-no e = simp e
 
-  pub length-no : modemFits m ≡ true → lent < 216 → firstNo (firstQuestions m lent ++ qs) ≡ Refused WrongLength
-  length-no e short = simp (e, lt-leb 216 lent short)
+  pub length-no : modemFits m ≡ true → (keys && leb 216 lent) ≡ false → firstNo (firstQuestions m keys lent ++ qs) ≡ Refused WrongLength
+  length-no e short = simp (e, short)
 
-  pub first-met : modemFits m ≡ true → 216 ≤ lent → firstNo (firstQuestions m lent ++ qs) ≡ firstNo qs
-  first-met e long = simp (e, le-leb 216 lent long)
+  pub first-met : modemFits m ≡ true → (keys && leb 216 lent) ≡ true → firstNo (firstQuestions m keys lent ++ qs) ≡ firstNo qs
+  first-met e long = simp (e, long)
+
+-- question 2 by what was found of both message keys
+pub keys-found : (a b c d k r : Bool) → a ≡ c → b ≡ d → (a && b && k) ≡ r → (c && d && k) ≡ r
+keys-found a b c d k r ea eb e = rw (sym ea, sym eb) e
 
 -- ---- a reading
+pub read-digest : (e : Receiver) (s : List ℕ) → messageAnswer e s ≡ Done → readOf e s .digest ≡ takenOf s .digest
+unfolding readOf
+read-digest e s d = rw d
+
 pub read-fields : (e : Receiver) (s : List ℕ) → messageAnswer e s ≡ Done → readOf e s .fields ≡ fieldsIn s
 unfolding readOf
 read-fields e s d = rw d
@@ -88,7 +99,7 @@ module _ (m : Modem) (s : List ℕ) (digest : Bool) where
   later =
       record { refusal = UnknownSaid; met = saidKnown m (fieldsIn s) }
       ∷ record { refusal = WrongIdentifier; met = identifierFits m (fieldsIn s) }
-      ∷ record { refusal = DigestFails; met = digestHolds digest (fieldsIn s) }
+      ∷ record { refusal = DigestFails; met = question12 digest (fieldsIn s) }
       ∷ []
 
   pub message-no : (r : Refusal) → messageAnswer AtModem s ≡ Refused r → firstNo (receiveQuestions m s digest) ≡ Refused r
@@ -111,10 +122,10 @@ module _ (m : Modem) (s : List ℕ) (digest : Bool) where
         pub identifier-no : identifierFits m (fieldsIn s) ≡ false → firstNo (receiveQuestions m s digest) ≡ Refused WrongIdentifier
         identifier-no e = asked ∙ simp (wide, known, e)
 
-        pub digest-no : identifierFits m (fieldsIn s) ≡ true → digestHolds digest (fieldsIn s) ≡ false → firstNo (receiveQuestions m s digest) ≡ Refused DigestFails
+        pub digest-no : identifierFits m (fieldsIn s) ≡ true → question12 digest (fieldsIn s) ≡ false → firstNo (receiveQuestions m s digest) ≡ Refused DigestFails
         digest-no i e = asked ∙ simp (wide, known, i, e)
 
-        pub all-met : identifierFits m (fieldsIn s) ≡ true → digestHolds digest (fieldsIn s) ≡ true → firstNo (receiveQuestions m s digest) ≡ Done
+        pub all-met : identifierFits m (fieldsIn s) ≡ true → question12 digest (fieldsIn s) ≡ true → firstNo (receiveQuestions m s digest) ≡ Done
         all-met i e = asked ∙ simp (wide, known, i, e)
 
 -- ---- the work of a call by another name for it
@@ -137,3 +148,13 @@ module _ (s : List ℕ) (r : Reading) (e : r ≡ readOf AtModem s) where
 
   pub reading-fields : isDone (r .answer) ≡ true → r .fields ≡ fieldsIn s
   reading-fields d = ap (λ (x : Reading). x .fields) e ∙ read-fields AtModem s (reading-done d)
+
+  reading-digest : isDone (r .answer) ≡ true → r .digest ≡ takenOf s .digest
+  reading-digest d = ap (λ (x : Reading). x .digest) e ∙ read-digest AtModem s (reading-done d)
+
+  -- question 12 by what was found of the digest at the place that the reading gives
+  pub digest-asked : (key : List ℕ) (h q : Bool) → isDone (r .answer) ≡ true → h ≡ digestHolds key (r .digest) s → q ≡ question12 h (r .fields)
+      → q ≡ question12 (digestHolds key (takenOf s .digest) s) (fieldsIn s)
+  digest-asked key h q d eh eq =
+      eq ∙ ap (λ (f : Fields). question12 h f) (reading-fields d)
+      ∙ ap (λ (b : Bool). question12 b (fieldsIn s)) (eh ∙ ap (λ (p : Place). digestHolds key p s) (reading-digest d))

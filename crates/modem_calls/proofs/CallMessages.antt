@@ -23,13 +23,14 @@ use Rattle.modem_steps.specs.Machine.{plainEvent}
 use Rattle.modem_steps.specs.Clock.{authFired, clocked}
 use Rattle.modem_reply.specs.Replied.{replied}
 use Rattle.modem_receive.specs.Events.{rejectEvent, rejected, pendedIf, invalidated}
-use Rattle.modem_receive.specs.Receive.{fieldsIn, receiveQuestions, received}
-use Rattle.modem_calls.specs.Messages.{requestsOctets, outOctets}
-use Rattle.modem_calls.specs.Calls.{resultOf, firstQuestions, eventOf, clockOf, receiveOf}
+use Rattle.modem_receive.specs.Receive.{fieldsIn, received}
+use Rattle.modem_calls.specs.Messages.{requestsOctets, outOctets, noKey}
+use Rattle.modem_calls.specs.Calls.{resultOf, firstQuestions, eventOf, clockAnswer, clockOf, receiveAnswer, receiveOf}
 use Rattle.modem_calls.proofs.SentLaws.{Sayable, sends-none, plain-sends}
 use Rattle.modem_calls.proofs.SentFits.{fits-sayable}
-use Rattle.modem_calls.proofs.CallLaws.{clockQuestions, clock-asked, receive-asked}
+use Rattle.modem_calls.proofs.CallLaws.{clock-asked, receive-asked}
 use Rattle.modem_calls.proofs.NoneDropped.{messagesOf, tekSent, deliver-messages, authSent, auth-messages, allSent, all-messages, authDueSent, slotsDueSent, clocked-messages}
+use Rattle.modem_calls.proofs.KeyLaws.{event-any-key}
 use Rattle.modem_calls.proofs.ReplySteps.{sentOf}
 use Rattle.modem_calls.proofs.ReplyTaken.{replySteps, done-result, reply-messages}
 
@@ -120,35 +121,37 @@ module _ (m : Modem) (s : Sayable m) where
       go false e false false false false = one 5 noParams noParams
 
 -- ---- each call that is done
-written-is : (a : Answer) (m : Modem) (w : Progress) (l : List Request) → a ≡ Done → messagesOf (w .out) ≡ l → resultOf a m w .written ≡ requestsOctets l
+written-is : (a : Answer) (m : Modem) (key : List ℕ) (w : Progress) (l : List Request) → a ≡ Done → messagesOf (w .out) ≡ l
+    → resultOf a m key w .written ≡ requestsOctets key l
 unfolding outOctets
-written-is a m w l d e = ap (λ (b : Answer). resultOf b m w .written) d ∙ ap requestsOctets e
+written-is a m key w l d e = ap (λ (b : Answer). resultOf b m key w .written) d ∙ ap (requestsOctets key) e
 
 module _ (m : Modem) (lent : ℕ) where
-  -- established is event 1, reauth event 8
-  pub event-written : (event : ℕ) → eventOf event m lent .called .answer ≡ Done → eventOf event m lent .written ≡ requestsOctets (plainSent m event)
-  unfolding eventOf
-  event-written event done =
-      let a = firstNo (firstQuestions m lent) in
+  -- established is event 1, reauth event 8; under every key
+  pub event-written : (event : ℕ) (key : List ℕ) → eventOf event m lent .called .answer ≡ Done → eventOf event m lent .written ≡ requestsOctets key (plainSent m event)
+  unfolding eventOf outOctets
+  event-written event key done =
+      let a = firstNo (firstQuestions m true lent) in
       let w = plainEvent (starting m) event in
-      let d : a ≡ Done = done-result a m w done in
-      written-is a m w (plainSent m event) d (plain-messages m event (fits-sayable m (done-met (firstQuestions m lent) d .0)))
+      let d : a ≡ Done = done-result a m noKey w done in
+      let own = plain-messages m event (fits-sayable m (done-met (firstQuestions m true lent) d .0)) in
+      ap (λ (b : Answer). resultOf b m noKey w .written) d ∙ sym (event-any-key m event key) ∙ ap (requestsOctets key) own
 
-  pub clock-written : (t : ℕ) → clockOf m t lent .called .answer ≡ Done
-      → clockOf m t lent .written ≡ requestsOctets (authDueSent (withClock m t) ++ slotsDueSent 4 (authFired (starting (withClock m t))))
+  pub clock-written : (t : ℕ) (write : List ℕ) → clockOf m t write lent .called .answer ≡ Done
+      → clockOf m t write lent .written ≡ requestsOctets write (authDueSent (withClock m t) ++ slotsDueSent 4 (authFired (starting (withClock m t))))
   unfolding clockOf
-  clock-written t done =
-      let a = firstNo (clockQuestions m t lent) in
-      let d : a ≡ Done = done-result a m (clocked m t) done in
-      written-is a m (clocked m t) (authDueSent (withClock m t) ++ slotsDueSent 4 (authFired (starting (withClock m t)))) d
-      (clocked-messages m t (fits-sayable m (clock-asked m t lent d .0)))
+  clock-written t write done =
+      let a = clockAnswer m t write lent in
+      let d : a ≡ Done = done-result a m write (clocked m t) done in
+      written-is a m write (clocked m t) (authDueSent (withClock m t) ++ slotsDueSent 4 (authFired (starting (withClock m t)))) d
+      (clocked-messages m t (fits-sayable m (clock-asked m t write lent d .0)))
 
-  pub receive-written : (s : List ℕ) (digest : Bool) → receiveOf m s digest lent .called .answer ≡ Done
-      → receiveOf m s digest lent .written ≡ requestsOctets (receivedSent m (fieldsIn s))
+  pub receive-written : (s read write : List ℕ) → receiveOf m s read write lent .called .answer ≡ Done
+      → receiveOf m s read write lent .written ≡ requestsOctets write (receivedSent m (fieldsIn s))
   unfolding receiveOf
-  receive-written s digest done =
-      let a = firstNo (firstQuestions m lent ++ receiveQuestions m s digest) in
+  receive-written s read write done =
+      let a = receiveAnswer m s read write lent in
       let f = fieldsIn s in
-      let d : a ≡ Done = done-result a m (received m f) done in
-      written-is a m (received m f) (receivedSent m f) d
-      (received-messages m (fits-sayable m (receive-asked m s digest lent d .fits)) f (λ five. reply-messages m s digest lent d five))
+      let d : a ≡ Done = done-result a m write (received m f) done in
+      written-is a m write (received m f) (receivedSent m f) d
+      (received-messages m (fits-sayable m (receive-asked m s read write lent d .fits)) f (λ five. reply-messages m s read write lent d five))

@@ -21,6 +21,7 @@ pub mod ReplyLaws
 pub mod ReplyTaken
 pub mod SentRead
 pub mod SentUp
+pub mod KeyLaws
 pub mod SentCalls
 pub mod CallMessages
 pub mod ReceivedWritten

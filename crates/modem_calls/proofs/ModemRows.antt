@@ -1,12 +1,13 @@
 -- Resends by timeout at both machines, and a Key Reply that no machine waits for, through the modem's call.
 use mathlib.Core.Path.{_≡_, refl, sym, ap, _∙_}
 use mathlib.Core.Bool.{Bool, true, false, _&&_, _||_, not, cond}
-use lib.Dec.{eqb}
+use lib.Dec.{eqb, leb}
+use lib.ListN.{length}
 use native.Mathlib.Omega.{arith}
 use mathlib.Core.Logic.{_⊎_, inl, inr}
 use mathlib.Core.List.{List, _++_}
 use Prim.Native.Nat.{ℕ, _≤_}
-use borrow.Author.Tests.{le-leb, eqb-true}
+use borrow.Author.Tests.{le-leb, eqb-true, eq-eqb}
 use Rattle.questions.specs.declared.refusal.Answer.{Answer}
 use Rattle.questions.specs.declared.refusal.Answer.the-variants.{Done, Refused}
 use Rattle.questions.specs.declared.refusal.Refusal.the-variants.{WrongIdentifier}
@@ -33,6 +34,8 @@ use Rattle.modem_steps.specs.declared.state.Progress.{Progress}
 use Rattle.modem_steps.specs.State.{slotAt}
 use Rattle.modem_steps.specs.Slots.{slotOfSaid}
 use Rattle.modem_receive.specs.Receive.{isKnown, widthsFit, saidKnown, identifierFits, fieldsIn, receiveQuestions, received}
+use Rattle.message_rules.specs.Reading.{takenOf}
+use Rattle.message_digest.specs.Digest.{messageKeyFits, digestHolds}
 use Rattle.modem_limits.specs.Limits.{modemFits}
 use Rattle.modem_calls.specs.Calls.{resultOf, firstQuestions, receiveOf}
 use Rattle.modem_calls.proofs.OutLaws.{authRequest}
@@ -131,12 +134,12 @@ module _ (a : Authorization) (event : ℕ) (x : AuthContext) where
       timeout-requests m y (w .1) .0 ∙ ap (authRequest (m .identifier)) same ∙ sym (w .0)
 
 -- ---- through the call: a Key Reply to a machine in D is refused and changes nothing
-pub answer-of : (a : Answer) (m : Modem) (w : Progress) → resultOf a m w .called .answer ≡ a
-answer-of Done m w = refl
-answer-of (Refused r) m w = refl
+pub answer-of : (a : Answer) (m : Modem) (key : List ℕ) (w : Progress) → resultOf a m key w .called .answer ≡ a
+answer-of Done m key w = refl
+answer-of (Refused r) m key w = refl
 
-module _ (m : Modem) (s : List ℕ) (digest : Bool) (lent : ℕ) (fits : modemFits m ≡ true) (enough : 216 ≤ lent)
-    (read : messageAnswer AtModem s ≡ Done) (reply : fieldsIn s .code ≡ 8) (wide : widthsFit m (fieldsIn s) ≡ true)
+module _ (m : Modem) (s read write : List ℕ) (lent : ℕ) (fits : modemFits m ≡ true)
+    (keys : (length read ≡ 20) × (length write ≡ 20)) (enough : 216 ≤ lent) (taken : messageAnswer AtModem s ≡ Done) (reply : fieldsIn s .code ≡ 8) (wide : widthsFit m (fieldsIn s) ≡ true)
     (known : isKnown m (fieldsIn s .said) ≡ true) (operational : slotAt m (slotOfSaid m (fieldsIn s .said)) .state ≡ D) where
   not-waiting : identifierFits m (fieldsIn s) ≡ false
   unfolding identifierFits
@@ -146,14 +149,16 @@ module _ (m : Modem) (s : List ℕ) (digest : Bool) (lent : ℕ) (fits : modemFi
   unfolding saidKnown
   is-known = simp (reply, known)
 
-  pub operational-refuses : receiveOf m s digest lent .called .answer ≡ Refused WrongIdentifier
+  pub operational-refuses : receiveOf m s read write lent .called .answer ≡ Refused WrongIdentifier
   unfolding receiveOf receiveQuestions
   operational-refuses =
-      let q = firstQuestions m lent ++ receiveQuestions m s digest in
-      let a = answer-done AtModem s .0 read in
+      let q = firstQuestions m (messageKeyFits read && messageKeyFits write) lent ++ receiveQuestions m s (digestHolds read (takenOf s .digest) s) in
+      let a = answer-done AtModem s .0 taken in
+      let two : (messageKeyFits read && messageKeyFits write && leb 216 lent) ≡ true =
+      rw (eq-eqb (length read) 20 (keys .0), eq-eqb (length write) 20 (keys .1), le-leb 216 lent enough) refl in
       let nine : question9 s && widthsFit m (fieldsIn s) ≡ true = rw (a .3, wide) in
-      answer-of (firstNo q) m (received m (fieldsIn s))
-      ∙ no-refused 7 WrongIdentifier q (fits, (le-leb 216 lent enough, (a .0, (a .1, (a .2, (nine, (is-known, (not-waiting, refl))))))))
+      answer-of (firstNo q) m write (received m (fieldsIn s))
+      ∙ no-refused 7 WrongIdentifier q (fits, (two, (a .0, (a .1, (a .2, (nine, (is-known, (not-waiting, refl))))))))
 
-  pub operational-unchanged : Unchanged m (receiveOf m s digest lent)
-  operational-unchanged = receive-refused m lent WrongIdentifier s digest operational-refuses
+  pub operational-unchanged : Unchanged m (receiveOf m s read write lent)
+  operational-unchanged = receive-refused m lent WrongIdentifier s read write operational-refuses

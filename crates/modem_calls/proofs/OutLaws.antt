@@ -27,7 +27,10 @@ use Rattle.modem_tek.specs.Tek.{keyRequest, identifierAfter, tekSends, tekMoved
 use Rattle.modem_authorization.specs.Authorization.{requestsInto, authIdentifier, informsOf, requestsOf, authMoved, authStays, authStepOf}
 use Rattle.modem_steps.specs.declared.state.Out.{Out}
 use Rattle.modem_steps.specs.State.{noOut, withMessage}
-use Rattle.modem_calls.specs.Messages.{requestOctets, requestsOctets, outOctets, RequestFits, OutFits}
+use Rattle.digest_hmac.specs.Hmac.{hmac}
+use Rattle.digest_hmac.proofs.FillLaws.{length-hmac}
+use Rattle.message_digest.specs.Digest.{bare, signedOf}
+use Rattle.modem_calls.specs.Messages.{requestFields, requestOctets, requestsOctets, outOctets, RequestFits, OutFits}
 
 -- ---- a message that can be written, in at most 36 octets
 -- Authentication Information, Auth Request
@@ -37,31 +40,39 @@ information = record { code = 12; identifier = 0; ak = record { 0 = 0 }; said = 
 abbrev pub authRequest : ℕ → ℕ → Request
 authRequest identifier said = record { code = 4; identifier = identifier; ak = record { 0 = 0 }; said = said }
 
-pub information-length : length (requestOctets information) ≡ 4
-unfolding requestOctets messageOf message itemsOf itemsOfTypes requiredOf octets two
-information-length = refl
+-- so long under every key
+pub information-length : (key : List ℕ) → length (requestOctets key information) ≡ 4
+unfolding requestOctets signedOf messageOf message itemsOf itemsOfTypes requiredOf octets two
+information-length key = refl
 
-pub request-length : (identifier said : ℕ) → length (requestOctets (authRequest identifier said)) ≡ 9
-unfolding requestOctets messageOf message itemsOf itemsOfTypes itemsOfType requiredOf octets attrOctets two
-request-length identifier said = refl
+pub request-length : (key : List ℕ) (identifier said : ℕ) → length (requestOctets key (authRequest identifier said)) ≡ 9
+unfolding requestOctets signedOf messageOf message itemsOf itemsOfTypes itemsOfType requiredOf octets attrOctets two
+request-length key identifier said = refl
 
-pub key-request-length : (identifier : ℕ) (ak : AkNumber) (said : ℕ) → length (requestOctets (keyRequest identifier ak said)) ≡ 36
-unfolding requestOctets messageOf message itemsOf itemsOfTypes itemsOfType requiredOf octets attrOctets two
-key-request-length identifier ak said = refl
+-- with a digest of 20
+with-digest : (r : Request) (digest : List ℕ) → r .code ≡ 7 → length digest ≡ 20 → length (messageOf (requestFields r) [] digest) ≡ 36
+unfolding messageOf message itemsOf itemsOfTypes itemsOfType requiredOf octets attrOctets two
+with-digest r digest seven n = simp (seven, length-append digest [], n)
+
+pub key-request-length : (key : List ℕ) (identifier : ℕ) (ak : AkNumber) (said : ℕ) → length (requestOctets key (keyRequest identifier ak said)) ≡ 36
+unfolding requestOctets signedOf
+key-request-length key identifier ak said =
+    let f = requestFields (keyRequest identifier ak said) in
+    with-digest (keyRequest identifier ak said) (hmac key (bare f [])) refl (length-hmac key (bare f []))
 
 pub information-fits : RequestFits information
 unfolding fieldsFit headFits isRequired requiredOf among descriptorsZero placeFit descriptorZero paramsZero keyOctetsZero zeroPast allZero authKeyFits
-information-fits = record { fields = refl; no-key = refl; short = omega (arith, information-length) }
+information-fits = record { fields = refl; no-key = refl; short = λ key. omega (arith, information-length key) }
 
 pub request-fits : (identifier said : ℕ) → said ≤ 16383 → RequestFits (authRequest identifier said)
 unfolding fieldsFit headFits isRequired requiredOf among descriptorsZero placeFit descriptorZero paramsZero keyOctetsZero zeroPast allZero authKeyFits
 request-fits identifier said small =
-    record { fields = simp (le-leb said 16383 small); no-key = refl; short = omega (arith, request-length identifier said) }
+    record { fields = simp (le-leb said 16383 small); no-key = refl; short = λ key. omega (arith, request-length key identifier said) }
 
 pub key-request-fits : (identifier : ℕ) (ak : AkNumber) (said : ℕ) → ak .0 ≤ 15 → said ≤ 16383 → RequestFits (keyRequest identifier ak said)
 unfolding fieldsFit headFits isRequired requiredOf among descriptorsZero placeFit descriptorZero paramsZero keyOctetsZero zeroPast allZero authKeyFits
 key-request-fits identifier ak said low small =
-    record { fields = simp (le-leb (ak .0) 15 low, le-leb said 16383 small); no-key = refl; short = omega (arith, key-request-length identifier ak said) }
+    record { fields = simp (le-leb (ak .0) 15 low, le-leb said 16383 small); no-key = refl; short = λ key. omega (arith, key-request-length key identifier ak said) }
 
 -- ---- what a step sends: nothing, or a message that can be written
 pub data Sendable (r : Request) : Type 0 where
@@ -173,17 +184,17 @@ module _ (o : Out) (r : Request) where
           (record { count = omega (arith, f .count); each = more-each (f .six) space (f .each) q; six = simp length-set (f .six) })
 
 -- ---- how many octets they have
-octets-most : (n : ℕ) (l : List Request) → ((i : ℕ) → i < n → RequestFits (getD l i nothing)) → length (requestsOctets (take n l)) ≤ 36 * n
+octets-most : (key : List ℕ) (n : ℕ) (l : List Request) → ((i : ℕ) → i < n → RequestFits (getD l i nothing)) → length (requestsOctets key (take n l)) ≤ 36 * n
 unfolding requestsOctets
-octets-most zero l each = omega arith
-octets-most (suc n) [] each = omega arith
-octets-most (suc n) (r ∷ l) each =
-    let rest = octets-most n l (λ i h. each (suc i) (omega arith)) in
-    let here = each 0 (omega arith) .short in
+octets-most key zero l each = omega arith
+octets-most key (suc n) [] each = omega arith
+octets-most key (suc n) (r ∷ l) each =
+    let rest = octets-most key n l (λ i h. each (suc i) (omega arith)) in
+    let here = each 0 (omega arith) .short key in
     simp length-append (omega arith)
 
-pub out-short : (o : Out) (n : ℕ) → OutFits o n → length (outOctets o) ≤ 36 * n
+pub out-short : (key : List ℕ) (o : Out) (n : ℕ) → OutFits o n → length (outOctets key o) ≤ 36 * n
 unfolding outOctets
-out-short o n f =
-    let most = octets-most (o .count) (o .sent) (f .each) in
+out-short key o n f =
+    let most = octets-most key (o .count) (o .sent) (f .each) in
     omega (arith, f .count)

@@ -2,7 +2,7 @@
 use mathlib.Core.Path.{_≡_, refl, sym, _∙_, subst}
 use mathlib.Core.Bool.{Bool, true, false, _&&_, _||_, cond}
 use mathlib.Core.Logic.{_⊎_, inl, inr}
-use mathlib.Core.List.{List, _++_}
+use mathlib.Core.List.{List}
 use Prim.Native.Nat.{ℕ, _<_}
 use native.Mathlib.Omega.{arith}
 use lib.Dec.{ltb, eqb}
@@ -26,11 +26,14 @@ use Rattle.modem_steps.specs.State.{withClock, slotAt, starting}
 use Rattle.modem_steps.specs.Slots.{firstSlot, slotOfSaid, isWaiting}
 use Rattle.modem_steps.specs.Machine.{plainEvent}
 use Rattle.modem_steps.specs.Clock.{clocked}
-use Rattle.modem_receive.specs.Receive.{paramsWide, digestHolds, fieldsIn, receiveQuestions, received}
+use Rattle.modem_receive.specs.Receive.{paramsWide, digestHolds as question12, fieldsIn, received}
 use Rattle.modem_limits.specs.Limits.{modemFits}
-use Rattle.modem_calls.specs.Calls.{resultOf, firstQuestions, newQuestions, newFor, newOf, eventOf, establishedOf, reauthOf, clockOf, receiveOf}
+use Rattle.message_rules.specs.Reading.{takenOf}
+use Rattle.message_digest.specs.Digest.{digestHolds}
+use Rattle.modem_calls.specs.Messages.{noKey}
+use Rattle.modem_calls.specs.Calls.{resultOf, firstQuestions, newQuestions, newFor, newOf, eventOf, establishedOf, reauthOf, clockAnswer, clockOf, receiveAnswer, receiveOf}
 use Rattle.modem_receive.proofs.ReceiveLaws.{known-slot, widths-known, identifier-tek, by-received}
-use Rattle.modem_calls.proofs.CallLaws.{clockQuestions, Asked, receive-asked}
+use Rattle.modem_calls.proofs.CallLaws.{Asked, receive-asked}
 use Rattle.modem_calls.proofs.PairSteps.{AllPairs, SameRest, rest-same, Carries, fresh-pairs, starting-carries, reply-carries, deliver-carries, plain-carries, replied-carries, rejected-carries, invalidated-carries, clocked-carries}
 
 -- ---- the slot that a search finds is in use, and the test holds there
@@ -56,20 +59,22 @@ first-found f m = go (at 0) refl (at 1) refl (at 2) refl (at 3) refl
     go false ea false eb false ec false ed h = absurd (omega arith)
 
 -- ---- a call: what holds of the modem before it, and of what is done where no question is failed, holds after it
-result-either : (a : Answer) (m : Modem) (w : Progress) (P : Modem → Type 0) → P m → (resultOf a m w .called .answer ≡ Done → a ≡ Done → P (w .modem))
-    → P (resultOf a m w .called .modem)
-result-either Done m w P old new = new refl refl
-result-either (Refused r) m w P old new = old
+result-either : (a : Answer) (m : Modem) (key : List ℕ) (w : Progress) (P : Modem → Type 0) → P m
+    → (resultOf a m key w .called .answer ≡ Done → a ≡ Done → P (w .modem))
+    → P (resultOf a m key w .called .modem)
+result-either Done m key w P old new = new refl refl
+result-either (Refused r) m key w P old new = old
 
-done-result : (a : Answer) (m : Modem) (w : Progress) (P : Modem → Type 0) → P (w .modem) → resultOf a m w .called .answer ≡ Done → P (resultOf a m w .called .modem)
-done-result Done m w P new e = new
-done-result (Refused r) m w P new e = let z : _≡_ {A = ℕ} 0 1 = cc in absurd (omega arith)
+done-result : (a : Answer) (m : Modem) (key : List ℕ) (w : Progress) (P : Modem → Type 0) → P (w .modem) → resultOf a m key w .called .answer ≡ Done
+    → P (resultOf a m key w .called .modem)
+done-result Done m key w P new e = new
+done-result (Refused r) m key w P new e = let z : _≡_ {A = ℕ} 0 1 = cc in absurd (omega arith)
 
 -- ---- a Key Reply that is taken: what questions 6 to 12 have asked of it. Its slot is the SAID's
 abbrev pub replySlot : Modem → List ℕ → Tek
 replySlot m s = slotAt m (slotOfSaid m (fieldsIn s .said))
 
-pub record KeyReplyTaken (m : Modem) (s : List ℕ) (digest : Bool) : Type 0 where
+pub record KeyReplyTaken (m : Modem) (s key : List ℕ) : Type 0 where
   pub fits : modemFits m ≡ true
   pub read : messageAnswer AtModem s ≡ Done
   pub code : fieldsIn s .code ≡ 8
@@ -79,11 +84,11 @@ pub record KeyReplyTaken (m : Modem) (s : List ℕ) (digest : Bool) : Type 0 whe
   pub newer-wide : paramsWide (widthOf (replySlot m s .suite)) (fieldsIn s .newer) ≡ true
   pub waits : isWaiting (replySlot m s) ≡ true
   pub identifier : replySlot m s .identifier ≡ fieldsIn s .identifier
-  pub holds : digest ≡ true
+  pub holds : digestHolds key (takenOf s .digest) s ≡ true
 
-pub reply-taken : (m : Modem) (s : List ℕ) (digest : Bool) → Asked m s digest → fieldsIn s .code ≡ 8 → KeyReplyTaken m s digest
-unfolding digestHolds
-reply-taken m s digest a eight =
+pub reply-taken : (m : Modem) (s read : List ℕ) → Asked m s read → fieldsIn s .code ≡ 8 → KeyReplyTaken m s read
+unfolding question12
+reply-taken m s read a eight =
     let f = fieldsIn s in
     let i = slotOfSaid m (f .said) in
     let one : (eqb (f .code) 8 || eqb (f .code) 9) ≡ true = rw eight refl in
@@ -126,7 +131,7 @@ module _ (Q : ℕ → ℕ → Pair → Type 0) (m : Modem) where
     event-pairs : (event : ℕ) → AllPairs Q (eventOf event m lent .called .modem)
     unfolding eventOf
     event-pairs event =
-        result-either (firstNo (firstQuestions m lent)) m (plainEvent (starting m) event) (AllPairs Q) p
+        result-either (firstNo (firstQuestions m true lent)) m noKey (plainEvent (starting m) event) (AllPairs Q) p
         (λ _ _. plain-carries Q m (starting m) event (starting-carries Q m p) .pairs)
 
     pub established-pairs : AllPairs Q (establishedOf m lent .called .modem)
@@ -135,24 +140,24 @@ module _ (Q : ℕ → ℕ → Pair → Type 0) (m : Modem) where
     pub reauth-pairs : AllPairs Q (reauthOf m lent .called .modem)
     reauth-pairs = event-pairs 8
 
-    pub clock-pairs : (t : ℕ) → AllPairs Q (clockOf m t lent .called .modem)
+    pub clock-pairs : (t : ℕ) (write : List ℕ) → AllPairs Q (clockOf m t write lent .called .modem)
     unfolding clockOf
-    clock-pairs t =
-        result-either (firstNo (clockQuestions m t lent)) m (clocked m t) (AllPairs Q) p (λ _ _. clocked-carries Q m t p .pairs)
+    clock-pairs t write =
+        result-either (clockAnswer m t write lent) m write (clocked m t) (AllPairs Q) p (λ _ _. clocked-carries Q m t p .pairs)
 
     -- a Key Reply that is taken brings its pair to the slot of its SAID; no other message brings one
-    pub receive-pairs : (s : List ℕ) (digest : Bool)
-        → (receiveOf m s digest lent .called .answer ≡ Done → KeyReplyTaken m s digest
+    pub receive-pairs : (s read write : List ℕ)
+        → (receiveOf m s read write lent .called .answer ≡ Done → KeyReplyTaken m s read
         → Q (fieldsIn s .said) (replySlot m s .suite) (pairOf (m .clock) (fieldsIn s .older) (fieldsIn s .newer)))
-        → AllPairs Q (receiveOf m s digest lent .called .modem)
+        → AllPairs Q (receiveOf m s read write lent .called .modem)
     unfolding receiveOf
-    receive-pairs s digest new =
+    receive-pairs s read write new =
         let f = fieldsIn s in
-        result-either (firstNo (firstQuestions m lent ++ receiveQuestions m s digest)) m (received m f) (AllPairs Q) p
+        result-either (receiveAnswer m s read write lent) m write (received m f) (AllPairs Q) p
         (λ d e.
         received-carries f
         (λ eight.
-        let k = reply-taken m s digest (receive-asked m s digest lent e) eight in
+        let k = reply-taken m s read (receive-asked m s read write lent e) eight in
         subst (λ (said : ℕ). Q said (replySlot m s .suite) (pairOf (m .clock) (f .older) (f .newer))) (sym (k .same)) (new d k))
         p .pairs)
 
@@ -160,17 +165,17 @@ module _ (Q : ℕ → ℕ → Pair → Type 0) (m : Modem) where
 abbrev pub HeldBy : Modem → ℕ → ℕ → Pair → Type 0
 HeldBy m said suite p = (j : ℕ) × (j < m .used) × (slotAt m j .said ≡ said) × (slotAt m j .suite ≡ suite) × (slotAt m j .pair ≡ p)
 
-abbrev pub BroughtBy : Modem → List ℕ → Bool → ℕ → ℕ → Pair → Type 0
-BroughtBy m s digest said suite p =
-    KeyReplyTaken m s digest × (said ≡ fieldsIn s .said) × (suite ≡ replySlot m s .suite) × (p ≡ pairOf (m .clock) (fieldsIn s .older) (fieldsIn s .newer))
+abbrev pub BroughtBy : Modem → List ℕ → List ℕ → ℕ → ℕ → Pair → Type 0
+BroughtBy m s read said suite p =
+    KeyReplyTaken m s read × (said ≡ fieldsIn s .said) × (suite ≡ replySlot m s .suite) × (p ≡ pairOf (m .clock) (fieldsIn s .older) (fieldsIn s .newer))
 
 pub own-pairs : (m : Modem) → AllPairs (HeldBy m) m
 own-pairs m i h q = (i, h, refl, refl, refl)
 
-pub receive-from : (m : Modem) (lent : ℕ) (s : List ℕ) (digest : Bool)
-    → AllPairs (λ said suite p. HeldBy m said suite p ⊎ BroughtBy m s digest said suite p) (receiveOf m s digest lent .called .modem)
-receive-from m lent s digest =
-    receive-pairs (λ said suite p. HeldBy m said suite p ⊎ BroughtBy m s digest said suite p) m lent (λ i h q. inl (own-pairs m i h q)) s digest
+pub receive-from : (m : Modem) (lent : ℕ) (s read write : List ℕ)
+    → AllPairs (λ said suite p. HeldBy m said suite p ⊎ BroughtBy m s read said suite p) (receiveOf m s read write lent .called .modem)
+receive-from m lent s read write =
+    receive-pairs (λ said suite p. HeldBy m said suite p ⊎ BroughtBy m s read said suite p) m lent (λ i h q. inl (own-pairs m i h q)) s read write
     (λ d k. inr (k, refl, refl, refl))
 
 -- a new modem holds none
@@ -193,7 +198,7 @@ module _ (m : Modem) (lent : ℕ) where
   event-rest : (event : ℕ) → SameRest m (eventOf event m lent .called .modem)
   unfolding eventOf
   event-rest event =
-      result-either (firstNo (firstQuestions m lent)) m (plainEvent (starting m) event) (SameRest m) (rest-same m)
+      result-either (firstNo (firstQuestions m true lent)) m noKey (plainEvent (starting m) event) (SameRest m) (rest-same m)
       (λ _ _. plain-carries Any m (starting m) event (starting-carries Any m (any m)) .rest)
 
   pub established-keeps : SameRest m (establishedOf m lent .called .modem)
@@ -202,23 +207,23 @@ module _ (m : Modem) (lent : ℕ) where
   pub reauth-keeps : SameRest m (reauthOf m lent .called .modem)
   reauth-keeps = event-rest 8
 
-  pub receive-keeps : (s : List ℕ) (digest : Bool) → SameRest m (receiveOf m s digest lent .called .modem)
+  pub receive-keeps : (s read write : List ℕ) → SameRest m (receiveOf m s read write lent .called .modem)
   unfolding receiveOf
-  receive-keeps s digest =
-      result-either (firstNo (firstQuestions m lent ++ receiveQuestions m s digest)) m (received m (fieldsIn s)) (SameRest m) (rest-same m)
+  receive-keeps s read write =
+      result-either (receiveAnswer m s read write lent) m write (received m (fieldsIn s)) (SameRest m) (rest-same m)
       (λ _ _. received-carries Any m (fieldsIn s) (λ _. tt) (any m) .rest)
 
   -- done, the clock is t
-  pub clock-done : (t : ℕ) → clockOf m t lent .called .answer ≡ Done → SameRest (withClock m t) (clockOf m t lent .called .modem)
+  pub clock-done : (t : ℕ) (write : List ℕ) → clockOf m t write lent .called .answer ≡ Done → SameRest (withClock m t) (clockOf m t write lent .called .modem)
   unfolding clockOf
-  clock-done t =
-      done-result (firstNo (clockQuestions m t lent)) m (clocked m t) (SameRest (withClock m t)) (clocked-carries Any m t (any m) .rest)
+  clock-done t write =
+      done-result (clockAnswer m t write lent) m write (clocked m t) (SameRest (withClock m t)) (clocked-carries Any m t (any m) .rest)
 
   -- done or refused, nothing but the clock
-  pub clock-keeps : (t : ℕ) → SameRest (withClock m (clockOf m t lent .called .modem .clock)) (clockOf m t lent .called .modem)
+  pub clock-keeps : (t : ℕ) (write : List ℕ) → SameRest (withClock m (clockOf m t write lent .called .modem .clock)) (clockOf m t write lent .called .modem)
   unfolding clockOf
-  clock-keeps t =
-      result-either (firstNo (clockQuestions m t lent)) m (clocked m t) (λ n. SameRest (withClock m (n .clock)) n)
+  clock-keeps t write =
+      result-either (clockAnswer m t write lent) m write (clocked m t) (λ n. SameRest (withClock m (n .clock)) n)
       (record { settings = refl; address = refl; said = refl; clock = refl; taken = refl; refused = refl })
       (λ _ _.
       let r = clocked-carries Any m t (any m) .rest in

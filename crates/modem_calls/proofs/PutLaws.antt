@@ -1,34 +1,29 @@
 -- The messages of one call in a lent slice: one after the other from its front.
 use mathlib.Core.Path.{_≡_, refl, sym, _∙_, ap}
-use mathlib.Core.Bool.{true}
 use mathlib.Core.List.{List, [], _∷_, _++_, append-assoc, append-nil}
 use Prim.Native.Nat.{ℕ, _+_, _-_, _≤_, _<_}
 use native.Mathlib.Numerals.{add-one}
 use native.Mathlib.Omega.{arith}
-use lib.Dec.{leb}
 use lib.ListN.{length, take, drop, getD, length-append, length-take, length-drop, drop-of-length-le}
 use lib.Seq.{sets, sets-eq, take-all, take-suc, drop-drop}
-use borrow.Author.Tests.{le-leb}
 use borrow.Rule.Slice.PartMut.{putMid, midOf}
 use Rattle.key_traffic.specs.Octets.{overlay}
 use Rattle.modem_tek.specs.declared.parts.Request.{Request}
 use Rattle.modem_tek.specs.TekParts.{nothing}
 use Rattle.message_rules.specs.declared.fields.Fields.{Fields}
 use Rattle.message_rules.specs.declared.fields.Writing.{Writing}
-use Rattle.message_rules.specs.Writing.{messageOf, noDigest, writeQuestions, writtenOf, writeOf}
+use Rattle.message_digest.specs.Written.{writtenOf, writeOf}
+use Rattle.message_digest.proofs.CallLaws.{call-done}
 use Rattle.key_traffic.proofs.StoreLaws.{sets-append}
 use Rattle.modem_calls.specs.Messages.{requestFields, requestOctets, requestsOctets, RequestFits}
 
 -- ---- one message
-module _ (r : Request) (fits : RequestFits r) (lent : ℕ) (enough : 36 ≤ lent) where
-  pub request-written : writtenOf (requestFields r) [] lent ≡ requestOctets r
-  unfolding writtenOf writeQuestions requestOctets
-  request-written =
-      let short : length (messageOf (requestFields r) [] noDigest) ≤ lent = omega (arith, fits .short, enough) in
-      let long : leb (length (messageOf (requestFields r) [] noDigest)) lent ≡ true = le-leb (length (messageOf (requestFields r) [] noDigest)) lent short in
-      simp (fits .fields, fits .no-key, long)
+module _ (r : Request) (fits : RequestFits r) (key : List ℕ) (twenty : length key ≡ 20) (lent : ℕ) (enough : 36 ≤ lent) where
+  pub request-written : writtenOf (requestFields r) [] key lent ≡ requestOctets key r
+  unfolding requestOctets
+  request-written = call-done (requestFields r) [] key lent (fits .fields) (fits .no-key) twenty (omega (arith, fits .short key, enough)) .1
 
-  pub request-count : writeOf (requestFields r) [] lent .count ≡ length (requestOctets r)
+  pub request-count : writeOf (requestFields r) [] key lent .count ≡ length (requestOctets key r)
   unfolding writeOf
   request-count = ap length request-written
 
@@ -49,31 +44,38 @@ part-put out at vs part inside e =
     ∙ sym (sets-eq vs out at inside)
 
 -- ---- one message more
-pub requests-append : (a b : List Request) → requestsOctets (a ++ b) ≡ requestsOctets a ++ requestsOctets b
+pub requests-append : (key : List ℕ) (a b : List Request) → requestsOctets key (a ++ b) ≡ requestsOctets key a ++ requestsOctets key b
 unfolding requestsOctets
-requests-append [] b = refl
-requests-append (r ∷ a) b = ap (λ (l : List ℕ). requestOctets r ++ l) (requests-append a b) ∙ sym (append-assoc (requestOctets r) (requestsOctets a) (requestsOctets b))
+requests-append key [] b = refl
+requests-append key (r ∷ a) b =
+    ap (λ (l : List ℕ). requestOctets key r ++ l) (requests-append key a b) ∙ sym (append-assoc (requestOctets key r) (requestsOctets key a) (requestsOctets key b))
 
-module _ (sent : List Request) (i : ℕ) (inside : i < length sent) where
-  pub requests-more : requestsOctets (take (i + 1) sent) ≡ requestsOctets (take i sent) ++ requestOctets (getD sent i nothing)
+module _ (key : List ℕ) (sent : List Request) (i : ℕ) (inside : i < length sent) where
+  abbrev front : List ℕ
+  front = requestsOctets key (take i sent)
+
+  abbrev next : List ℕ
+  next = requestOctets key (getD sent i nothing)
+
+  pub requests-more : requestsOctets key (take (i + 1) sent) ≡ front ++ next
   unfolding requestsOctets
   requests-more =
-      ap (λ (k : ℕ). requestsOctets (take k sent)) (add-one i) ∙ ap requestsOctets (take-suc sent i nothing inside)
-      ∙ requests-append (take i sent) (getD sent i nothing ∷ []) ∙ ap (λ (l : List ℕ). requestsOctets (take i sent) ++ l) (append-nil (requestOctets (getD sent i nothing)))
+      ap (λ (k : ℕ). requestsOctets key (take k sent)) (add-one i) ∙ ap (requestsOctets key) (take-suc sent i nothing inside)
+      ∙ requests-append key (take i sent) (getD sent i nothing ∷ []) ∙ ap (λ (l : List ℕ). front ++ l) (append-nil next)
 
-  pub put-more : (lent out : List ℕ) (at : ℕ) → out ≡ sets lent 0 (requestsOctets (take i sent)) → at ≡ length (requestsOctets (take i sent))
-      → sets out at (requestOctets (getD sent i nothing)) ≡ sets lent 0 (requestsOctets (take (i + 1) sent))
+  pub put-more : (lent out : List ℕ) (at : ℕ) → out ≡ sets lent 0 (requestsOctets key (take i sent)) → at ≡ length (requestsOctets key (take i sent))
+      → sets out at (requestOctets key (getD sent i nothing)) ≡ sets lent 0 (requestsOctets key (take (i + 1) sent))
   put-more lent out at e a =
-      ap (λ (l : List ℕ). sets l at (requestOctets (getD sent i nothing))) e
-      ∙ ap (λ (k : ℕ). sets (sets lent 0 (requestsOctets (take i sent))) k (requestOctets (getD sent i nothing))) (a ∙ zero-plus (length (requestsOctets (take i sent))))
-      ∙ sym (sets-append (requestsOctets (take i sent)) (requestOctets (getD sent i nothing)) lent 0)
+      ap (λ (l : List ℕ). sets l at next) e
+      ∙ ap (λ (k : ℕ). sets (sets lent 0 front) k next) (a ∙ zero-plus (length front))
+      ∙ sym (sets-append front next lent 0)
       ∙ ap (sets lent 0) (sym requests-more)
     where
       zero-plus : (n : ℕ) → n ≡ 0 + n
       zero-plus n = omega arith
 
-  pub length-more : (at n : ℕ) → at ≡ length (requestsOctets (take i sent)) → n ≡ at + length (requestOctets (getD sent i nothing))
-      → n ≡ length (requestsOctets (take (i + 1) sent))
+  pub length-more : (at n : ℕ) → at ≡ length (requestsOctets key (take i sent)) → n ≡ at + length (requestOctets key (getD sent i nothing))
+      → n ≡ length (requestsOctets key (take (i + 1) sent))
   length-more at n a e = e ∙ rw (requests-more, length-append, a)
 
 -- ---- all of them
@@ -83,21 +85,25 @@ put-all lent vs inside =
     sets-eq vs lent 0 (rw from inside) ∙ ap (λ (k : ℕ). vs ++ drop k lent) from
 
 -- ---- what the writer leaves of a message written from a place on
-module _ (r : Request) (fits : RequestFits r) (f : Fields) (is : f ≡ requestFields r) (out : List ℕ) (at : ℕ) (room : at + 36 ≤ length out) where
+module _ (r : Request) (fits : RequestFits r) (key : List ℕ) (twenty : length key ≡ 20) (f : Fields) (is : f ≡ requestFields r) (out : List ℕ) (at : ℕ)
+    (room : at + 36 ≤ length out) where
   abbrev mid : List ℕ
   mid = midOf at (length out - at) out
 
   mid-long : 36 ≤ length mid
   mid-long = rw (length-take (length out - at) (drop at out), length-drop at out) (omega arith)
 
-  pub put-count : (w : Writing) → w ≡ writeOf f [] (length mid) → w .count ≡ length (requestOctets r)
-  put-count w e = ap (λ (v : Writing). v .count) e ∙ ap (λ (g : Fields). writeOf g [] (length mid) .count) is ∙ request-count r fits (length mid) mid-long
+  pub put-count : (w : Writing) → w ≡ writeOf f [] key (length mid) → w .count ≡ length (requestOctets key r)
+  put-count w e =
+      ap (λ (v : Writing). v .count) e ∙ ap (λ (g : Fields). writeOf g [] key (length mid) .count) is ∙ request-count r fits key twenty (length mid) mid-long
 
-  pub put-at : (w : Writing) (part : List ℕ) → w ≡ writeOf f [] (length mid) → part ≡ overlay mid (writtenOf f [] (length mid))
-      → (putMid at (length out - at) out part ≡ sets out at (requestOctets r)) × ((at + w .count ≡ at + length (requestOctets r)) × (at + w .count ≤ at + 36))
+  pub put-at : (w : Writing) (part : List ℕ) → w ≡ writeOf f [] key (length mid) → part ≡ overlay mid (writtenOf f [] key (length mid))
+      → (putMid at (length out - at) out part ≡ sets out at (requestOctets key r)) × ((at + w .count ≡ at + length (requestOctets key r)) × (at + w .count ≤ at + 36))
   put-at w part e p =
       let count = put-count w e in
-      let written : writtenOf f [] (length mid) ≡ requestOctets r = ap (λ (g : Fields). writtenOf g [] (length mid)) is ∙ request-written r fits (length mid) mid-long in (
-        part-put out at (requestOctets r) part (omega (arith, fits .short)) (p ∙ ap (overlay mid) written),
-        (ap (λ (k : ℕ). at + k) count, omega (arith, count, fits .short)),
+      let short = fits .short key in
+      let written : writtenOf f [] key (length mid) ≡ requestOctets key r =
+      ap (λ (g : Fields). writtenOf g [] key (length mid)) is ∙ request-written r fits key twenty (length mid) mid-long in (
+        part-put out at (requestOctets key r) part (omega (arith, short)) (p ∙ ap (overlay mid) written),
+        (ap (λ (k : ℕ). at + k) count, omega (arith, count, short)),
       )

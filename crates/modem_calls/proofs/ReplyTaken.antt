@@ -10,7 +10,6 @@ use lib.Seq.{getD-take}
 use borrow.Author.Tests.{eq-eqb}
 use Rattle.questions.specs.declared.refusal.Answer.{Answer}
 use Rattle.questions.specs.declared.refusal.Answer.the-variants.{Done, Refused}
-use Rattle.questions.specs.Questions.{firstNo}
 use Rattle.questions.proofs.ListLaws.{Each, each-nil}
 use Rattle.questions.proofs.TestLaws.{both}
 use Rattle.message_rules.specs.declared.fields.Descriptor.{Descriptor}
@@ -32,12 +31,12 @@ use Rattle.modem_steps.specs.State.{pastTek, slotAt}
 use Rattle.modem_reply.specs.Listed.{descriptorAt}
 use Rattle.modem_reply.specs.Relist.{freshTek}
 use Rattle.modem_reply.specs.Replied.{replied}
-use Rattle.modem_receive.specs.Receive.{fieldsIn, receiveQuestions, received}
+use Rattle.modem_receive.specs.Receive.{fieldsIn, received}
 use Rattle.modem_receive.proofs.ReceiveLaws.{identifier-auth, received-5}
 use Rattle.modem_limits.specs.Limits.{saidsOfTeks, modemFits}
 use Rattle.modem_limits.proofs.LimitsLaws.{Apart, different-apart, limits-of}
 use Rattle.modem_calls.specs.Messages.{requestsOctets, outOctets}
-use Rattle.modem_calls.specs.Calls.{Result, resultOf, firstQuestions, receiveOf}
+use Rattle.modem_calls.specs.Calls.{Result, resultOf, receiveAnswer, receiveOf}
 use Rattle.modem_calls.proofs.SentFits.{read-fit}
 use Rattle.modem_calls.proofs.CallLaws.{receive-asked}
 use Rattle.modem_calls.proofs.NoneDropped.{messagesOf}
@@ -159,42 +158,42 @@ read-replies s d five =
     record { low = ok .low; high = ok .high; apart = λ i j less h q. apart i j less h (fresh-at ds i ∙ q ∙ sym (fresh-at ds j)) }
 
 -- ---- the call
-pub record ReplyCall (m : Modem) (f : Fields) (r : Result) : Type 0 where
+pub record ReplyCall (m : Modem) (f : Fields) (write : List ℕ) (r : Result) : Type 0 where
   pub sent : List Request
-  pub written : r .written ≡ requestsOctets sent
+  pub written : r .written ≡ requestsOctets write sent
   pub after : AfterReply m f (r .called .modem) sent
 
-pub done-result : (a : Answer) (m : Modem) (w : Progress) → resultOf a m w .called .answer ≡ Done → a ≡ Done
-done-result Done m w e = refl
-done-result (Refused r) m w e = let z : _≡_ {A = ℕ} 0 1 = cc in absurd (omega arith)
+pub done-result : (a : Answer) (m : Modem) (key : List ℕ) (w : Progress) → resultOf a m key w .called .answer ≡ Done → a ≡ Done
+done-result Done m key w e = refl
+done-result (Refused r) m key w e = let z : _≡_ {A = ℕ} 0 1 = cc in absurd (omega arith)
 
-module _ (m : Modem) (s : List ℕ) (digest : Bool) (lent : ℕ) where
-  reply-after : firstNo (firstQuestions m lent ++ receiveQuestions m s digest) ≡ Done → fieldsIn s .code ≡ 5
+module _ (m : Modem) (s read write : List ℕ) (lent : ℕ) where
+  reply-after : receiveAnswer m s read write lent ≡ Done → fieldsIn s .code ≡ 5
       → AfterReply m (fieldsIn s) (replied m (fieldsIn s) .modem) (messagesOf (replied m (fieldsIn s) .out))
   reply-after e five =
       let f = fieldsIn s in
-      let a = receive-asked m s digest lent e in
+      let a = receive-asked m s read write lent e in
       let is : (eqb (f .code) 5 || eqb (f .code) 6) ≡ true = rw (eq-eqb (f .code) 5 five) refl in
       let waits : Waiting m =
       both (eqb (m .authorization .state) B || eqb (m .authorization .state) D) (eqb (m .authorization .identifier) (f .identifier))
       (identifier-auth m f is ∙ a .answers) .0 in
       replied-after m f (a .fits) (read-replies s (a .read) five) waits
 
-  pub reply-messages : firstNo (firstQuestions m lent ++ receiveQuestions m s digest) ≡ Done → fieldsIn s .code ≡ 5
+  pub reply-messages : receiveAnswer m s read write lent ≡ Done → fieldsIn s .code ≡ 5
       → messagesOf (replied m (fieldsIn s) .out) ≡ sentOf (replySteps m (fieldsIn s))
   reply-messages e five = reply-after e five .messages
 
-  reply-done : firstNo (firstQuestions m lent ++ receiveQuestions m s digest) ≡ Done → fieldsIn s .code ≡ 5
-      → ReplyCall m (fieldsIn s) (resultOf Done m (received m (fieldsIn s)))
+  reply-done : receiveAnswer m s read write lent ≡ Done → fieldsIn s .code ≡ 5
+      → ReplyCall m (fieldsIn s) write (resultOf Done m write (received m (fieldsIn s)))
   unfolding outOctets
   reply-done e five =
       let f = fieldsIn s in
-      subst (λ (w : Progress). ReplyCall m f (resultOf Done m w)) (received-5 m f five)
+      subst (λ (w : Progress). ReplyCall m f write (resultOf Done m write w)) (received-5 m f five)
       (record { sent = messagesOf (replied m f .out); written = refl; after = reply-after e five })
 
-  pub receive-reply : receiveOf m s digest lent .called .answer ≡ Done → fieldsIn s .code ≡ 5 → ReplyCall m (fieldsIn s) (receiveOf m s digest lent)
+  pub receive-reply : receiveOf m s read write lent .called .answer ≡ Done → fieldsIn s .code ≡ 5 → ReplyCall m (fieldsIn s) write (receiveOf m s read write lent)
   unfolding receiveOf
   receive-reply done five =
-      let a = firstNo (firstQuestions m lent ++ receiveQuestions m s digest) in
-      let e : a ≡ Done = done-result a m (received m (fieldsIn s)) done in
-      subst (λ (b : Answer). ReplyCall m (fieldsIn s) (resultOf b m (received m (fieldsIn s)))) (sym e) (reply-done e five)
+      let a = receiveAnswer m s read write lent in
+      let e : a ≡ Done = done-result a m write (received m (fieldsIn s)) done in
+      subst (λ (b : Answer). ReplyCall m (fieldsIn s) write (resultOf b m write (received m (fieldsIn s)))) (sym e) (reply-done e five)

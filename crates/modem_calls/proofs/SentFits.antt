@@ -115,12 +115,13 @@ module _ (m : Modem) (e : modemFits m ≡ true) where
   pub message-out : (s : List ℕ) → messageAnswer AtModem s ≡ Done → saidKnown m (fieldsIn s) ≡ true → OutFits (received m (fieldsIn s) .out) 6
   message-out s d k = received-out (fieldsIn s) (read-heard s d) (takeable m s d k .known)
 
-  -- in at most 216 octets
-  pub plain-short : (event : ℕ) → length (outOctets (plainEvent (starting m) event .out)) ≤ 216
-  plain-short event = omega (arith, out-short (plainEvent (starting m) event .out) 2 (plain-out event))
+  -- in at most 216 octets, under every message key
+  pub plain-short : (key : List ℕ) (event : ℕ) → length (outOctets key (plainEvent (starting m) event .out)) ≤ 216
+  plain-short key event = omega (arith, out-short key (plainEvent (starting m) event .out) 2 (plain-out event))
 
-  pub clocked-short : (t : ℕ) → length (outOctets (clocked m t .out)) ≤ 216
-  clocked-short t = omega (arith, out-short (clocked m t .out) 6 (clocked-out t))
+  pub clocked-short : (key : List ℕ) (t : ℕ) → length (outOctets key (clocked m t .out)) ≤ 216
+  clocked-short key t = omega (arith, out-short key (clocked m t .out) 6 (clocked-out t))
 
-  pub message-short : (s : List ℕ) → messageAnswer AtModem s ≡ Done → saidKnown m (fieldsIn s) ≡ true → length (outOctets (received m (fieldsIn s) .out)) ≤ 216
-  message-short s d k = omega (arith, out-short (received m (fieldsIn s) .out) 6 (message-out s d k))
+  pub message-short : (key s : List ℕ) → messageAnswer AtModem s ≡ Done → saidKnown m (fieldsIn s) ≡ true
+      → length (outOctets key (received m (fieldsIn s) .out)) ≤ 216
+  message-short key s d k = omega (arith, out-short key (received m (fieldsIn s) .out) 6 (message-out s d k))

@@ -79,10 +79,11 @@ AllUp o = Each Upward (messagesOf o)
 abbrev pub Up : Progress → Type 0
 Up w = AllUp (w .out)
 
-with-message-up : (o : Out) (r : Request) → MaybeUp r → AllUp o → AllUp (withMessage o r)
+-- one more of which P holds, as it does of each before it
+pub with-message-each : (P : Request → Type 0) (o : Out) (r : Request) → (r .code ≡ 0) ⊎ P r → Each P (messagesOf o) → Each P (messagesOf (withMessage o r))
 unfolding withMessage
-with-message-up o r (inl e) h = simp (eq-eqb (r .code) 0 e) h
-with-message-up o r (inr up) h = go (eqb (r .code) 0) (leb 6 (o .count)) (ltb (o .count) (length (o .sent))) (if-lt (o .count) (length (o .sent)))
+with-message-each P o r (inl e) h = simp (eq-eqb (r .code) 0 e) h
+with-message-each P o r (inr p) h = go (eqb (r .code) 0) (leb 6 (o .count)) (ltb (o .count) (length (o .sent))) (if-lt (o .count) (length (o .sent)))
   where
     n : ℕ
     n = o .count
@@ -90,13 +91,16 @@ with-message-up o r (inr up) h = go (eqb (r .code) 0) (leb 6 (o .count)) (ltb (o
     more : Out
     more = record { count = o .count + 1; sent = set (o .sent) (o .count) r }
 
-    go : (b c d : Bool) → IfLt n (length (o .sent)) d → AllUp (cond b o (cond c o more))
+    go : (b c d : Bool) → IfLt n (length (o .sent)) d → Each P (messagesOf (cond b o (cond c o more)))
     go true c d i = h
     go false true d i = h
-    go false false true inside = rw (add-one, take-suc-set (o .sent) n r inside) (each-snoc Upward (take n (o .sent)) r h up)
+    go false false true inside = rw (add-one, take-suc-set (o .sent) n r inside) (each-snoc P (take n (o .sent)) r h p)
     go false false false over =
         let wider : length (o .sent) ≤ n + 1 = omega arith in
-        rw (set-out (o .sent) n r over, take-all (n + 1) (o .sent) wider) (subst (Each Upward) (take-all n (o .sent) over) h)
+        rw (set-out (o .sent) n r over, take-all (n + 1) (o .sent) wider) (subst (Each P) (take-all n (o .sent) over) h)
+
+with-message-up : (o : Out) (r : Request) → MaybeUp r → AllUp o → AllUp (withMessage o r)
+with-message-up = with-message-each Upward
 
 up-either : (b : Bool) (v w : Progress) → Up v → Up w → Up (cond b v w)
 up-either true v w p q = p

@@ -1,7 +1,7 @@
 -- The modem's calls: the questions in document 01's order, and what is done where all are met.
 use mathlib.Core.Path.{_≡_}
 use Prim.Native.Nat.{ℕ}
-use mathlib.Core.Bool.{Bool, _&&_}
+use mathlib.Core.Bool.{Bool, true, _&&_}
 use mathlib.Core.List.{List, [], _∷_, _++_}
 use lib.Dec.{leb}
 use lib.ListN.{length}
@@ -22,15 +22,17 @@ use Rattle.modem_limits.specs.Limits.{modemFits}
 use Rattle.modem_steps.specs.Machine.{plainEvent}
 use Rattle.modem_steps.specs.Clock.{clocked}
 use Rattle.modem_receive.specs.Receive.{receiveQuestions, received, fieldsIn}
-use Rattle.modem_calls.specs.Messages.{outOctets}
+use Rattle.message_rules.specs.Reading.{takenOf}
+use Rattle.message_digest.specs.Digest.{messageKeyFits, digestHolds}
+use Rattle.modem_calls.specs.Messages.{outOctets, noKey}
 
 -- What a call gives: a refusal changes and writes nothing
 pub record Result : Type 0 where
   pub called : Called
   pub written : List ℕ
 
-abbrev pub doneCall : Progress → Called
-doneCall w = record { answer = Done; modem = w .modem; count = length (outOctets (w .out)) }
+abbrev pub doneCall : List ℕ → Progress → Called
+doneCall key w = record { answer = Done; modem = w .modem; count = length (outOctets key (w .out)) }
 
 -- An answer with the modem as it was
 abbrev pub answeredCall : Answer → Modem → Called
@@ -39,14 +41,15 @@ answeredCall a m = record { answer = a; modem = m; count = 0 }
 abbrev pub refusedCall : Refusal → Modem → Called
 refusedCall r m = answeredCall (Refused r) m
 
-abbrev pub resultOf : Answer → Modem → Progress → Result
-resultOf Done m w = record { called = doneCall w; written = outOctets (w .out) }
-resultOf (Refused r) m w = record { called = refusedCall r m; written = [] }
+-- `key` is the message key of what is written
+abbrev pub resultOf : Answer → Modem → List ℕ → Progress → Result
+resultOf Done m key w = record { called = doneCall key w; written = outOctets key (w .out) }
+resultOf (Refused r) m key w = record { called = refusedCall r m; written = [] }
 
--- Questions 1 and 2 of every call but `new`: the state, and 216 octets for messages
-abbrev pub firstQuestions : Modem → ℕ → List Question
-firstQuestions m lent =
-    record { refusal = OutOfLimits; met = modemFits m } ∷ record { refusal = WrongLength; met = leb 216 lent } ∷ []
+-- Questions 1 and 2 of every call but `new`: the state, the message keys where the call takes some, and 216 octets for messages
+abbrev pub firstQuestions : Modem → Bool → ℕ → List Question
+firstQuestions m keys lent =
+    record { refusal = OutOfLimits; met = modemFits m } ∷ record { refusal = WrongLength; met = keys && leb 216 lent } ∷ []
 
 -- A fresh modem: question 1 of the settings, the address and its own SAID
 unfoldable pub newQuestions : Settings → ℕ → ℕ → List Question
@@ -60,9 +63,9 @@ newFor (Refused r) settings address said = record { answer = Refused r; modem = 
 unfoldable pub newOf : Settings → ℕ → ℕ → Called
 newOf settings address said = newFor (firstNo (newQuestions settings address said)) settings address said
 
--- established (event 1) and reauth (event 8)
+-- established (event 1) and reauth (event 8): what they send carries no digest, so they take no key
 unfoldable pub eventOf : ℕ → Modem → ℕ → Result
-eventOf event m lent = resultOf (firstNo (firstQuestions m lent)) m (plainEvent (starting m) event)
+eventOf event m lent = resultOf (firstNo (firstQuestions m true lent)) m noKey (plainEvent (starting m) event)
 
 abbrev pub establishedOf : Modem → ℕ → Result
 establishedOf m lent = eventOf 1 m lent
@@ -77,14 +80,20 @@ clockFits m t = leb (m .clock) t && leb t 1000000000000
 abbrev pub clockQuestions : Modem → ℕ → List Question
 clockQuestions m t = record { refusal = ClockOutOfOrder; met = clockFits m t } ∷ []
 
-abbrev pub clockAnswer : Modem → ℕ → ℕ → Answer
-clockAnswer m t lent = firstNo (firstQuestions m lent ++ clockQuestions m t)
+-- With the message key of what is written
+abbrev pub clockAnswer : Modem → ℕ → List ℕ → ℕ → Answer
+clockAnswer m t write lent = firstNo (firstQuestions m (messageKeyFits write) lent ++ clockQuestions m t)
 
-unfoldable pub clockOf : Modem → ℕ → ℕ → Result
-clockOf m t lent = resultOf (clockAnswer m t lent) m (clocked m t)
+unfoldable pub clockOf : Modem → ℕ → List ℕ → ℕ → Result
+clockOf m t write lent = resultOf (clockAnswer m t write lent) m write (clocked m t)
 
-unfoldable pub receiveOf : Modem → List ℕ → Bool → ℕ → Result
-receiveOf m s digest lent = resultOf (firstNo (firstQuestions m lent ++ receiveQuestions m s digest)) m (received m (fieldsIn s))
+-- The answer to a message, with the message keys of what is read and of what is written; question 12 rests on the digest that the first gives
+abbrev pub receiveAnswer : Modem → List ℕ → List ℕ → List ℕ → ℕ → Answer
+receiveAnswer m s read write lent =
+    firstNo (firstQuestions m (messageKeyFits read && messageKeyFits write) lent ++ receiveQuestions m s (digestHolds read (takenOf s .digest) s))
+
+unfoldable pub receiveOf : Modem → List ℕ → List ℕ → List ℕ → ℕ → Result
+receiveOf m s read write lent = resultOf (receiveAnswer m s read write lent) m write (received m (fieldsIn s))
 
 -- The answer with the modem, and every octet of the lent slice: the messages at its front, the rest as it was
 abbrev pub Gives : Result → List ℕ → Called → List ℕ → Type 0

@@ -8,7 +8,7 @@ use Rattle.modem_tek.specs.declared.parts.Request.{Request}
 use Rattle.message_rules.specs.declared.fields.Fields.{Fields}
 use Rattle.message_rules.specs.Fields.{noParams, noDescriptor}
 use Rattle.message_rules.specs.Limits.{fieldsFit, authKeyFits}
-use Rattle.message_rules.specs.Writing.{messageOf, noDigest}
+use Rattle.message_digest.specs.Digest.{signedOf}
 use Rattle.modem_tek.specs.TekParts.{nothing}
 use Rattle.modem_steps.specs.declared.state.Out.{Out}
 
@@ -28,23 +28,28 @@ requestFields r =
       newer = noParams;
     }
 
-unfoldable pub requestOctets : Request → List ℕ
-requestOctets r = messageOf (requestFields r) [] noDigest
+-- With the digest that the message key gives in 7
+unfoldable pub requestOctets : List ℕ → Request → List ℕ
+requestOctets key r = signedOf (requestFields r) [] key
 
-unfoldable pub requestsOctets : List Request → List ℕ
-requestsOctets [] = []
-requestsOctets (r ∷ rs) = requestOctets r ++ requestsOctets rs
+unfoldable pub requestsOctets : List ℕ → List Request → List ℕ
+requestsOctets key [] = []
+requestsOctets key (r ∷ rs) = requestOctets key r ++ requestsOctets key rs
 
-unfoldable pub outOctets : Out → List ℕ
-outOctets o = requestsOctets (take (o .count) (o .sent))
+unfoldable pub outOctets : List ℕ → Out → List ℕ
+outOctets key o = requestsOctets key (take (o .count) (o .sent))
+
+-- What stands for a message key in calls whose messages carry no digest
+abbrev pub noKey : List ℕ
+noKey = replicate 20 0
 
 -- ---- what writing them asks; `SentFits` shows that what a modem within its limits sends has it
 
--- A message that the writer takes, of at most 36 octets
+-- A message that the writer takes, of at most 36 octets under any key
 pub record RequestFits (r : Request) : Type 0 where
   pub fields : fieldsFit (requestFields r) ≡ true
   pub no-key : authKeyFits (requestFields r) 0 ≡ true
-  pub short : length (requestOctets r) ≤ 36
+  pub short : (key : List ℕ) → length (requestOctets key r) ≤ 36
 
 -- At most n messages, each of them such
 pub record OutFits (o : Out) (n : ℕ) : Type 0 where

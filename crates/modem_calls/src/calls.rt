@@ -7,6 +7,9 @@ ghost use Rattle.key_traffic.specs.Octets.{overlay};
 ghost use Rattle.modem_calls.specs.Messages.{outOctets, OutFits};
 ghost use Rattle.modem_calls.specs.Calls.{refusedCall, answeredCall, doneCall, newOf, eventOf, establishedOf, reauthOf, clockAnswer, clockOf, receiveOf, Gives};
 use crate::messages::put_out;
+use message_digest::digest::MESSAGE_KEY_OCTETS;
+use message_digest::digest::is_digest_right;
+use message_digest::digest::message_key_fits;
 use message_reader::read::read;
 use message_rules::codes::SENT_OCTETS;
 use message_rules::fields::Receiver;
@@ -57,13 +60,13 @@ fn answered(m: Modem, a: Answer) -> Called
 }
 
 // The modem after its work, with its messages written.
-fn done(w: Progress, out: &mut [u8]) -> Called
-    requires { ⌜ OutFits (w .out) 6 × (216 ≤ length (now out)) ⌝ }
-    ensures { λ c. ⌜ (c ≡ doneCall w) × (now (out .exit) ≡ overlay (now (out .entry)) (outOctets (w .out))) ⌝ }
+fn done(w: Progress, key: &[u8], out: &mut [u8]) -> Called
+    requires { ⌜ OutFits (w .out) 6 × (length (now key) ≡ 20) × (216 ≤ length (now out)) ⌝ }
+    ensures { λ c. ⌜ (c ≡ doneCall (now (key .entry)) w) × (now (out .exit) ≡ overlay (now (out .entry)) (outOctets (now (key .entry)) (w .out))) ⌝ }
 {
     let o = w.out;
     let m = w.modem;
-    let n = put_out(o, out);
+    let n = put_out(o, key, out);
     Called {
         answer: Answer::Done,
         modem: m,
@@ -99,7 +102,8 @@ fn event_call(m: Modem, event: u8, out: &mut [u8]) -> Called
         return refused(m, Refusal::WrongLength);
     }
     let w = start(m).plain_event(event);
-    done(w, out)
+    let none = [0u8; MESSAGE_KEY_OCTETS];
+    done(w, &none, out)
 }
 
 // The modem is established.
@@ -119,42 +123,50 @@ pub fn reauth(m: Modem, out: &mut [u8]) -> Called
 }
 
 // The questions of the clock call alone, with `lent` octets for messages.
-pub fn clock_answer(m: Modem, t: u64, lent: usize) -> Answer
-    ensures { λ a. ⌜ a ≡ clockAnswer m t lent ⌝ }
+pub fn clock_answer(m: Modem, t: u64, key: &[u8], lent: usize) -> Answer
+    ensures { λ a. ⌜ a ≡ clockAnswer m t (now (key .entry)) lent ⌝ }
 {
     let q3 = (m.clock <= t) & (t <= CLOCK_MAX);
     let a3 = ask(q3, Refusal::ClockOutOfOrder, Answer::Done);
-    let a2 = ask(SENT_OCTETS <= lent, Refusal::WrongLength, a3);
+    let q2 = message_key_fits(key) & (SENT_OCTETS <= lent);
+    let a2 = ask(q2, Refusal::WrongLength, a3);
     ask(modem_fits(m), Refusal::OutOfLimits, a2)
 }
 
-// The clock goes to `t`.
-pub fn clock(m: Modem, t: u64, out: &mut [u8]) -> Called
-    ensures { λ c. ⌜ Gives (clockOf m t (length (now (out .entry))))
+// The clock goes to `t`; what is sent has its digests under `write_key`.
+pub fn clock(m: Modem, t: u64, write_key: &[u8], out: &mut [u8]) -> Called
+    ensures { λ c. ⌜ Gives (clockOf m t (now («write_key» .entry)) (length (now (out .entry))))
         (now (out .entry)) c (now (out .exit)) ⌝ }
 {
-    let a = clock_answer(m, t, out.len());
+    let a = clock_answer(m, t, write_key, out.len());
     if !is_done(a) {
         return answered(m, a);
     }
     let w = clocked(m, t);
-    done(w, out)
+    done(w, write_key, out)
 }
 
-// A message comes; `digest` says whether its digest holds.
-pub fn receive(m: Modem, message: &[u8], digest: bool, out: &mut [u8]) -> Called
-    ensures { λ c. ⌜ Gives (receiveOf m (now (message .entry)) digest (length (now (out .entry))))
+// A message comes; its digest is asked under `read_key`, and what is sent has its digests under `write_key`.
+pub fn receive(
+    m: Modem,
+    message: &[u8],
+    read_key: &[u8],
+    write_key: &[u8],
+    out: &mut [u8],
+) -> Called
+    ensures { λ c. ⌜ Gives (receiveOf m (now (message .entry)) (now («read_key» .entry)) (now («write_key» .entry)) (length (now (out .entry))))
         (now (out .entry)) c (now (out .exit)) ⌝ }
 {
     if !modem_fits(m) {
         return refused(m, Refusal::OutOfLimits);
     }
-    if out.len() < SENT_OCTETS {
+    if !(message_key_fits(read_key) & message_key_fits(write_key) & (SENT_OCTETS <= out.len())) {
         return refused(m, Refusal::WrongLength);
     }
     let r = read(Receiver::Modem, message);
     let answer = r.answer;
     let f = r.fields;
+    let place = r.digest;
     if !is_done(answer) {
         return answered(m, answer);
     }
@@ -167,9 +179,10 @@ pub fn receive(m: Modem, message: &[u8], digest: bool, out: &mut [u8]) -> Called
     if !identifier_fits(m, f) {
         return refused(m, Refusal::WrongIdentifier);
     }
-    if !digest_holds(digest, f) {
+    let holds = is_digest_right(message, place, read_key);
+    if !digest_holds(holds, f) {
         return refused(m, Refusal::DigestFails);
     }
     let w = received(m, f);
-    done(w, out)
+    done(w, write_key, out)
 }

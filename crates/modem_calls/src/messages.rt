@@ -1,4 +1,4 @@
-// The messages of one call, written one after the other into a lent slice.
+// The messages of one call, written one after the other into a lent slice, each with its digest under a message key.
 ghost use mathlib.Core.Path.{_≡_};
 ghost use Prim.Native.Nat.{_+_, _≤_};
 ghost use lib.ListN.{length};
@@ -33,28 +33,28 @@ fn request_fields(r: Request) -> Fields
 }
 
 // One message at `at`; the place after it is handed back.
-fn put_request(r: Request, out: &mut [u8], at: usize) -> usize
-    requires { ⌜ RequestFits r × (at + 36 ≤ length (now out)) ⌝ }
-    ensures { λ n. ⌜ (now (out .exit) ≡ sets (now (out .entry)) at (requestOctets r)) × ((n ≡ at + length (requestOctets r)) × (n ≤ at + 36)) ⌝ }
+fn put_request(r: Request, key: &[u8], out: &mut [u8], at: usize) -> usize
+    requires { ⌜ RequestFits r × (length (now key) ≡ 20) × (at + 36 ≤ length (now out)) ⌝ }
+    ensures { λ n. ⌜ (now (out .exit) ≡ sets (now (out .entry)) at (requestOctets (now (key .entry)) r)) × ((n ≡ at + length (requestOctets (now (key .entry)) r)) × (n ≤ at + 36)) ⌝ }
 {
     let f = request_fields(r);
     let none = [0u8; 1];
-    let key = &none[..0];
-    let w = write(f, key, &mut out[at..]);
+    let auth = &none[..0];
+    let w = write(f, auth, key, &mut out[at..]);
     at + w.count
 }
 
 // All of them, from the front; how many octets there are is handed back.
-pub fn put_out(o: Out, out: &mut [u8]) -> usize
-    requires { ⌜ OutFits o 6 × (216 ≤ length (now out)) ⌝ }
-    ensures { λ n. ⌜ (now (out .exit) ≡ overlay (now (out .entry)) (outOctets o)) × (n ≡ length (outOctets o)) ⌝ }
+pub fn put_out(o: Out, key: &[u8], out: &mut [u8]) -> usize
+    requires { ⌜ OutFits o 6 × (length (now key) ≡ 20) × (216 ≤ length (now out)) ⌝ }
+    ensures { λ n. ⌜ (now (out .exit) ≡ overlay (now (out .entry)) (outOctets (now (key .entry)) o)) × (n ≡ length (outOctets (now (key .entry)) o)) ⌝ }
 {
     let count = o.count;
     let mut at: usize = 0;
     let mut i: usize = 0;
     while i < count {
         let r = o.sent[i];
-        at = put_request(r, out, at);
+        at = put_request(r, key, out, at);
         i += 1;
     }
     at

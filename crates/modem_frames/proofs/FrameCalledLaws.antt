@@ -6,7 +6,7 @@ use Prim.Native.Nat.{ℕ, _≤_}
 use native.Mathlib.Omega.{arith}
 use lib.Dec.{leb, ltb, eqb}
 use lib.ListN.{length, take}
-use borrow.Author.Tests.{ltb-true, leb-true, eq-eqb, ne-eqb}
+use borrow.Author.Tests.{ltb-true, leb-true, eqb-true, eq-eqb, ne-eqb}
 use Rattle.key_traffic.specs.declared.numbers.TekNumber.{TekNumber}
 use Rattle.key_traffic.specs.declared.frame.Opening.{Opening}
 use Rattle.questions.specs.declared.refusal.Answer.{Answer}
@@ -21,6 +21,7 @@ use Rattle.key_traffic.specs.Sealing.{Sealed, sealedFor, openedBy, sealCalled, 
 use Rattle.questions.proofs.TestLaws.{both}
 use Rattle.questions.proofs.AnswerLaws.{is-done, number-done}
 use Rattle.message_rules.specs.Fields.{noParams}
+use Rattle.message_digest.specs.Digest.{messageKeyFits}
 use Rattle.modem_tek.specs.declared.tek.Tek.{Tek}
 use Rattle.modem_steps.specs.declared.state.Modem.{Modem}
 use Rattle.modem_steps.specs.declared.state.Progress.{Progress}
@@ -64,11 +65,12 @@ frame-fits m direction address said number e =
     let s₂ = both (modemFits m && eqb direction 1) (ltb address 281474976710656) (s₃ .0) in
     both (modemFits m) (eqb direction 1) (s₂ .0) .0
 
-slices-long : (tek vector lent : ℕ) → slicesLong tek vector lent ≡ true → (16 ≤ tek) × (16 ≤ vector) × (216 ≤ lent)
-slices-long tek vector lent e =
-    let s₂ = both (leb 16 tek && leb 16 vector) (leb 216 lent) e in
-    let s₁ = both (leb 16 tek) (leb 16 vector) (s₂ .0) in
-    (leb-true 16 tek (s₁ .0), leb-true 16 vector (s₁ .1), leb-true 216 lent (s₂ .1))
+slices-long : (write : List ℕ) (tek vector lent : ℕ) → slicesLong write tek vector lent ≡ true → (16 ≤ tek) × (16 ≤ vector) × (216 ≤ lent) × (length write ≡ 20)
+slices-long write tek vector lent e =
+    let s₃ = both (messageKeyFits write && leb 16 tek && leb 16 vector) (leb 216 lent) e in
+    let s₂ = both (messageKeyFits write && leb 16 tek) (leb 16 vector) (s₃ .0) in
+    let s₁ = both (messageKeyFits write) (leb 16 tek) (s₂ .0) in
+    (leb-true 16 tek (s₁ .1), leb-true 16 vector (s₂ .1), leb-true 216 lent (s₃ .1), eqb-true (length write) 20 (s₁ .0))
 
 -- ---- sealing
 abbrev sealedBy : Answer → Tek → Sealed
@@ -136,24 +138,25 @@ module _ (m : Modem) (said : ℕ) where
       (deliver-sends (starting m) (slotOfSaid m said) 5 noParams noParams 0 (ltb-true (slotOfSaid m said) 4 known) (omega arith)
       (sends-none m (fits-sayable m fits)) .out)
 
-  pub missing-done : (a : Answer) (out : List ℕ) (r : Progress) (next : Modem) (n : ℕ) (c : OpenedCall) (out₁ : List ℕ)
-      → r ≡ deliver (starting m) (slotOfSaid m said) 5 → next ≡ countedBy 13 (r .modem) → n ≡ length (outOctets (r .out)) → c ≡ openedCall a next 0 n
-      → out₁ ≡ overlay out (outOctets (r .out))
-      → (c ≡ openCalled (missed true a m said)) × (out₁ ≡ overlay out (missed true a m said .sent))
-  missing-done a out r next n c out₁ er em en ec eo = (
+  pub missing-done : (a : Answer) (key out : List ℕ) (r : Progress) (next : Modem) (n : ℕ) (c : OpenedCall) (out₁ : List ℕ)
+      → r ≡ deliver (starting m) (slotOfSaid m said) 5 → next ≡ countedBy 13 (r .modem) → n ≡ length (outOctets key (r .out)) → c ≡ openedCall a next 0 n
+      → out₁ ≡ overlay out (outOctets key (r .out))
+      → (c ≡ openCalled (missed true a m said key)) × (out₁ ≡ overlay out (missed true a m said key .sent))
+  missing-done a key out r next n c out₁ er em en ec eo = (
     ec ∙ ap (λ (x : Modem). openedCall a x 0 n) (em ∙ ap (λ (x : Progress). countedBy 13 (x .modem)) er)
         ∙ ap (λ (x : ℕ). openedCall a (countedBy 13 (deliver (starting m) (slotOfSaid m said) 5 .modem)) 0 x)
-        (en ∙ ap (λ (x : Progress). length (outOctets (x .out))) er),
-    eo ∙ ap (λ (x : Progress). overlay out (outOctets (x .out))) er,
+        (en ∙ ap (λ (x : Progress). length (outOctets key (x .out))) er),
+    eo ∙ ap (λ (x : Progress). overlay out (outOctets key (x .out))) er,
   )
 
-  opened-13 : (number : TekNumber) (a : Answer) → answerNumber a ≡ 13 → missed true a m said ≡ openedFor a m said number
-  opened-13 number Done e = absurd (omega arith)
-  opened-13 number (Refused r) e = ap (λ (b : Bool). missed b (Refused r) m said) (sym (eq-eqb (answerNumber (Refused r)) 13 e))
+  opened-13 : (number : TekNumber) (key : List ℕ) (a : Answer) → answerNumber a ≡ 13 → missed true a m said key ≡ openedFor a m said number key
+  opened-13 number key Done e = absurd (omega arith)
+  opened-13 number key (Refused r) e = ap (λ (b : Bool). missed b (Refused r) m said key) (sym (eq-eqb (answerNumber (Refused r)) 13 e))
 
-  opened-other : (number : TekNumber) (a : Answer) → (answerNumber a ≡ 13 → ⊥) → (answerNumber a ≡ 0 → ⊥) → missed false a m said ≡ openedFor a m said number
-  opened-other number Done e z = absurd (z refl)
-  opened-other number (Refused r) e z = ap (λ (b : Bool). missed b (Refused r) m said) (sym (ne-eqb (answerNumber (Refused r)) 13 e))
+  opened-other : (number : TekNumber) (key : List ℕ) (a : Answer) → (answerNumber a ≡ 13 → ⊥) → (answerNumber a ≡ 0 → ⊥)
+      → missed false a m said key ≡ openedFor a m said number key
+  opened-other number key Done e z = absurd (z refl)
+  opened-other number key (Refused r) e z = ap (λ (b : Bool). missed b (Refused r) m said key) (sym (ne-eqb (answerNumber (Refused r)) 13 e))
 
 -- ---- the octets of the decision's value; `o` and `w` are the decision and the width as the code has them
 pub opened-by : (clock : ℕ) (number : TekNumber) (t : Tek) (o : Opening) (w : ℕ) (tek vector : List ℕ) (n : ℕ) (tek₁ vector₁ : List ℕ)
@@ -169,48 +172,50 @@ opened-by clock number t o w tek vector n tek₁ vector₁ eo ew put = rw (sym e
 abbrev openedWith : Modem → TekNumber → Tek → ModemOpened
 openedWith m number t = record { answer = Done; modem = countedBy 0 m; out = machineOut (m .clock) number t; sent = [] }
 
-module _ (m : Modem) (direction address said : ℕ) (number : TekNumber) (tek vector out : List ℕ) where
+module _ (m : Modem) (direction address said : ℕ) (number : TekNumber) (write tek vector out : List ℕ) where
   abbrev OpenMeets : ModemOpened → OpenedCall → List ℕ → List ℕ → List ℕ → Type 0
   OpenMeets o c tek₁ vector₁ out₁ = OpenGives o tek vector out c tek₁ vector₁ out₁
 
   abbrev opening : ModemOpened
-  opening = openOf m direction address said number (length tek) (length vector) (length out)
+  opening = openOf m direction address said number write (length tek) (length vector) (length out)
 
-  module _ (t : Tek) (a : Answer) (n : ℕ) (et : t ≡ knownMachine m said)
-      (ea : a ≡ openAsked m direction address said number t (length tek) (length vector) (length out)) (en : n ≡ answerNumber a) where
-    open-answer : a ≡ openAnswer m direction address said number (length tek) (length vector) (length out)
+  module _ (t : Tek) (keys : Bool) (a : Answer) (n : ℕ) (et : t ≡ knownMachine m said) (ek : keys ≡ messageKeyFits write)
+      (ea : a ≡ openAsked m direction address said number t keys (length tek) (length vector) (length out)) (en : n ≡ answerNumber a) where
+    open-answer : a ≡ openAnswer m direction address said number write (length tek) (length vector) (length out)
     open-answer =
-        ea ∙ ap (λ (u : Tek). openAsked m direction address said number u (length tek) (length vector) (length out)) et
-        ∙ open-asked m direction address said number (length tek) (length vector) (length out)
+        ea ∙ ap (λ (u : Tek). openAsked m direction address said number u keys (length tek) (length vector) (length out)) et
+        ∙ ap (λ (k : Bool). openAsked m direction address said number (knownMachine m said) k (length tek) (length vector) (length out)) ek
+        ∙ open-asked m direction address said number write (length tek) (length vector) (length out)
 
-    open-for : openedFor a m said number ≡ opening
+    open-for : openedFor a m said number write ≡ opening
     unfolding openOf
-    open-for = ap (λ (b : Answer). openedFor b m said number) open-answer
+    open-for = ap (λ (b : Answer). openedFor b m said number write) open-answer
 
     -- refused with 13
     module _ (is : n ≡ 13) where
-      open-met : (frameIn m direction address said number ≡ true) × (slicesLong (length tek) (length vector) (length out) ≡ true) × (isHere m address said ≡ true)
+      open-met : (frameIn m direction address said number ≡ true) × (slicesLong write (length tek) (length vector) (length out) ≡ true) × (isHere m address said ≡ true)
       unfolding openAnswer openAsked
       open-met =
-          asks-13 NoKeyForFrame (frameIn m direction address said number) (slicesLong (length tek) (length vector) (length out)) (isHere m address said)
+          asks-13 NoKeyForFrame (frameIn m direction address said number) (slicesLong write (length tek) (length vector) (length out)) (isHere m address said)
           (canOpen m said number) (ap answerNumber (sym open-answer) ∙ sym en ∙ is)
 
-      pub missing-ready : (modemFits m ≡ true) × ((isKnown m said ≡ true) × (216 ≤ length out))
-      missing-ready = (
-        frame-fits m direction address said number (open-met .0),
-        (both (eqb address (m .address)) (isKnown m said) (open-met .2) .1, slices-long (length tek) (length vector) (length out) (open-met .1) .2),
-      )
+      pub missing-ready : (modemFits m ≡ true) × ((isKnown m said ≡ true) × ((length write ≡ 20) × (216 ≤ length out)))
+      missing-ready =
+          let l = slices-long write (length tek) (length vector) (length out) (open-met .1) in (
+            frame-fits m direction address said number (open-met .0),
+            (both (eqb address (m .address)) (isKnown m said) (open-met .2) .1, (l .3, l .2)),
+          )
 
-      pub open-missed : (c : OpenedCall) (out₁ : List ℕ) → c ≡ openCalled (missed true a m said) → out₁ ≡ overlay out (missed true a m said .sent)
+      pub open-missed : (c : OpenedCall) (out₁ : List ℕ) → c ≡ openCalled (missed true a m said write) → out₁ ≡ overlay out (missed true a m said write .sent)
           → OpenMeets opening c tek vector out₁
       open-missed c out₁ ec eo =
-          subst (λ (o : ModemOpened). OpenMeets o c tek vector out₁) (opened-13 m said number a (sym en ∙ is) ∙ open-for) (ec, refl, refl, eo)
+          subst (λ (o : ModemOpened). OpenMeets o c tek vector out₁) (opened-13 m said number write a (sym en ∙ is) ∙ open-for) (ec, refl, refl, eo)
 
     -- any other refusal
     pub open-refused : (n ≡ 13 → ⊥) → (n ≡ 0 → ⊥) → (next : Modem) (c : OpenedCall) → next ≡ countedBy n m → c ≡ openedCall a next 0 0
         → OpenMeets opening c tek vector out
     open-refused not-13 not-0 next c ex ec =
-        subst (λ (o : ModemOpened). OpenMeets o c tek vector out) (opened-other m said number a (λ e. not-13 (en ∙ e)) (λ e. not-0 (en ∙ e)) ∙ open-for)
+        subst (λ (o : ModemOpened). OpenMeets o c tek vector out) (opened-other m said number write a (λ e. not-13 (en ∙ e)) (λ e. not-0 (en ∙ e)) ∙ open-for)
         (ec ∙ ap (λ (x : Modem). openedCall a x 0 0) (ex ∙ ap (λ (k : ℕ). countedBy k m) en), refl, refl, refl)
 
     -- opened
@@ -218,19 +223,19 @@ module _ (m : Modem) (direction address said : ℕ) (number : TekNumber) (tek ve
       open-is : a ≡ Done
       open-is = number-done a (sym en ∙ is)
 
-      open-done-met : (frameIn m direction address said number ≡ true) × (slicesLong (length tek) (length vector) (length out) ≡ true) × (isHere m address said ≡ true)
+      open-done-met : (frameIn m direction address said number ≡ true) × (slicesLong write (length tek) (length vector) (length out) ≡ true) × (isHere m address said ≡ true)
       unfolding openAnswer openAsked
       open-done-met =
-          asks-done NoKeyForFrame (frameIn m direction address said number) (slicesLong (length tek) (length vector) (length out)) (isHere m address said)
+          asks-done NoKeyForFrame (frameIn m direction address said number) (slicesLong write (length tek) (length vector) (length out)) (isHere m address said)
           (canOpen m said number) (sym open-answer ∙ open-is)
 
       pub open-long : (16 ≤ length tek) × (16 ≤ length vector)
-      open-long = let l = slices-long (length tek) (length vector) (length out) (open-done-met .1) in (l .0, l .1)
+      open-long = let l = slices-long write (length tek) (length vector) (length out) (open-done-met .1) in (l .0, l .1)
 
       open-same : openedWith m number t ≡ opening
       open-same =
           ap (openedWith m number) (et ∙ machine-known m said (both (eqb address (m .address)) (isKnown m said) (open-done-met .2) .1))
-          ∙ ap (λ (b : Answer). openedFor b m said number) (sym open-is) ∙ open-for
+          ∙ ap (λ (b : Answer). openedFor b m said number write) (sym open-is) ∙ open-for
 
       pub open-done : (next : Modem) (k : ℕ) (c : OpenedCall) (tek₁ vector₁ : List ℕ) → next ≡ countedBy n m
           → k ≡ length (machineOut (m .clock) number t .tek) → c ≡ openedCall a next k 0

@@ -6,7 +6,8 @@ use mathlib.Core.List.{List, [], _∷_}
 use Prim.Native.Nat.{ℕ, _≤_, _<_}
 use native.Mathlib.Omega.{arith}
 use lib.Dec.{leb, ltb, eqb}
-use borrow.Author.Tests.{ltb-true, leb-true, lt-ltb, le-leb, eqb-true}
+use lib.ListN.{length}
+use borrow.Author.Tests.{ltb-true, leb-true, lt-ltb, le-leb, eqb-true, eq-eqb}
 use Rattle.key_traffic.specs.declared.numbers.TekNumber.{TekNumber}
 use Rattle.key_traffic.specs.declared.traffic.TrafficKey.{TrafficKey}
 use Rattle.questions.specs.declared.refusal.Answer.{Answer}
@@ -26,6 +27,7 @@ use Rattle.key_traffic.proofs.FrameLaws.{opening-key}
 use Rattle.questions.proofs.TestLaws.{both}
 use Rattle.questions.proofs.AnswerLaws.{done-met}
 use Rattle.message_rules.proofs.HoldsLaws.{never}
+use Rattle.message_digest.specs.Digest.{messageKeyFits}
 use Rattle.modem_tek.specs.declared.parts.Pair.{Pair}
 use Rattle.modem_transitions.specs.Transitions.{D}
 use Rattle.modem_steps.specs.declared.state.Modem.{Modem}
@@ -135,28 +137,29 @@ abbrev pub frameIn : Modem → ℕ → ℕ → ℕ → TekNumber → Bool
 frameIn m direction address said number =
     modemFits m && eqb direction 1 && ltb address 281474976710656 && leb said 16383 && tekInRange number
 
-abbrev pub slicesLong : ℕ → ℕ → ℕ → Bool
-slicesLong tek vector lent = leb 16 tek && leb 16 vector && leb 216 lent
+-- question 2: the message key and the lent slices
+abbrev pub slicesLong : List ℕ → ℕ → ℕ → ℕ → Bool
+slicesLong write tek vector lent = messageKeyFits write && leb 16 tek && leb 16 vector && leb 216 lent
 
 abbrev pub isHere : Modem → ℕ → ℕ → Bool
 isHere m address said = eqb address (m .address) && isKnown m said
 
-module _ (m : Modem) (direction address said : ℕ) (number : TekNumber) (tek vector lent : ℕ) where
+module _ (m : Modem) (direction address said : ℕ) (number : TekNumber) (write : List ℕ) (tek vector lent : ℕ) where
   -- what holds of each answer's opening holds of the opening
   pub open-by : (P : ModemOpened → Type 0)
-      → (frameIn m direction address said number ≡ false → P (openedFor (Refused OutOfLimits) m said number))
-      → (slicesLong tek vector lent ≡ false → P (openedFor (Refused WrongLength) m said number))
-      → (isHere m address said ≡ false → P (openedFor (Refused UnknownSaid) m said number))
-      → (frameIn m direction address said number ≡ true → isHere m address said ≡ true → canOpen m said number ≡ false → P (openedFor (Refused NoKeyForFrame) m said number))
-      → (frameIn m direction address said number ≡ true → isHere m address said ≡ true → canOpen m said number ≡ true → P (openedFor Done m said number))
-      → P (openOf m direction address said number tek vector lent)
+      → (frameIn m direction address said number ≡ false → P (openedFor (Refused OutOfLimits) m said number write))
+      → (slicesLong write tek vector lent ≡ false → P (openedFor (Refused WrongLength) m said number write))
+      → (isHere m address said ≡ false → P (openedFor (Refused UnknownSaid) m said number write))
+      → (frameIn m direction address said number ≡ true → isHere m address said ≡ true → canOpen m said number ≡ false → P (openedFor (Refused NoKeyForFrame) m said number write))
+      → (frameIn m direction address said number ≡ true → isHere m address said ≡ true → canOpen m said number ≡ true → P (openedFor Done m said number write))
+      → P (openOf m direction address said number write tek vector lent)
   unfolding openOf openAnswer openAsked
   open-by P p₁ p₂ p₁₀ p₁₃ p₀ =
-      go (frameIn m direction address said number) refl (slicesLong tek vector lent) refl (isHere m address said) refl (canOpen m said number) refl
+      go (frameIn m direction address said number) refl (slicesLong write tek vector lent) refl (isHere m address said) refl (canOpen m said number) refl
     where
-      go : (a : Bool) → frameIn m direction address said number ≡ a → (b : Bool) → slicesLong tek vector lent ≡ b
+      go : (a : Bool) → frameIn m direction address said number ≡ a → (b : Bool) → slicesLong write tek vector lent ≡ b
           → (c : Bool) → isHere m address said ≡ c → (d : Bool) → canOpen m said number ≡ d
-          → P (openedFor (cond a (cond b (cond c (cond d Done (Refused NoKeyForFrame)) (Refused UnknownSaid)) (Refused WrongLength)) (Refused OutOfLimits)) m said number)
+          → P (openedFor (cond a (cond b (cond c (cond d Done (Refused NoKeyForFrame)) (Refused UnknownSaid)) (Refused WrongLength)) (Refused OutOfLimits)) m said number write)
       go false ea b eb c ec d ed = p₁ ea
       go true ea false eb c ec d ed = p₂ eb
       go true ea true eb false ec d ed = p₁₀ ec
@@ -181,9 +184,9 @@ abbrev pub OpenCases : Modem → ℕ → ℕ → TekNumber → ModemOpened → T
 OpenCases m address said number o =
     (answerNumber (o .answer) ≡ 10) ⊎ ((answerNumber (o .answer) ≡ 13) ⊎ OpenFacts m address said number o)
 
-opened-facts : (m : Modem) (address said : ℕ) (number : TekNumber) → isHere m address said ≡ true → canOpen m said number ≡ true
-    → OpenFacts m address said number (openedFor Done m said number)
-opened-facts m address said number here can =
+opened-facts : (m : Modem) (address said : ℕ) (number : TekNumber) (write : List ℕ) → isHere m address said ≡ true → canOpen m said number ≡ true
+    → OpenFacts m address said number (openedFor Done m said number write)
+opened-facts m address said number write here can =
     let t = machineOf m said in
     let older = t .pair .older in
     let newer = t .pair .newer in
@@ -206,18 +209,18 @@ opened-facts m address said number here can =
     }
 
 -- a modem within its limits refuses such an opening with 10 or 13 alone
-pub open-cases : (m : Modem) (address said : ℕ) (number : TekNumber) (tek vector lent : ℕ) → modemFits m ≡ true → address < 281474976710656 → said ≤ 16383
-    → tekInRange number ≡ true → 16 ≤ tek → 16 ≤ vector → 216 ≤ lent
-    → OpenCases m address said number (openOf m 1 address said number tek vector lent)
-open-cases m address said number tek vector lent fits below small range t v l =
+pub open-cases : (m : Modem) (address said : ℕ) (number : TekNumber) (write : List ℕ) (tek vector lent : ℕ) → modemFits m ≡ true → address < 281474976710656
+    → said ≤ 16383 → tekInRange number ≡ true → length write ≡ 20 → 16 ≤ tek → 16 ≤ vector → 216 ≤ lent
+    → OpenCases m address said number (openOf m 1 address said number write tek vector lent)
+open-cases m address said number write tek vector lent fits below small range k t v l =
     let met : frameIn m 1 address said number ≡ true = simp (fits, lt-ltb address 281474976710656 below, le-leb said 16383 small, range) in
-    let long : slicesLong tek vector lent ≡ true = simp (le-leb 16 tek t, le-leb 16 vector v, le-leb 216 lent l) in
-    open-by m 1 address said number tek vector lent (OpenCases m address said number)
+    let long : slicesLong write tek vector lent ≡ true = simp (eq-eqb (length write) 20 k, le-leb 16 tek t, le-leb 16 vector v, le-leb 216 lent l) in
+    open-by m 1 address said number write tek vector lent (OpenCases m address said number)
     (λ e. never (sym e ∙ met))
     (λ e. never (sym e ∙ long))
     (λ e. inl refl)
     (λ i h e. inr (inl refl))
-    (λ i h e. inr (inr (opened-facts m address said number h e)))
+    (λ i h e. inr (inr (opened-facts m address said number write h e)))
 
 -- ---- the counts
 pub record Counted (m : Modem) (o : ModemOpened) : Type 0 where
@@ -227,11 +230,11 @@ pub record Counted (m : Modem) (o : ModemOpened) : Type 0 where
   pub other : (answerNumber (o .answer) ≡ 0 → ⊥) → (answerNumber (o .answer) ≡ 10 → ⊥) → (answerNumber (o .answer) ≡ 13 → ⊥)
       → (o .modem .taken ≡ m .taken) × (o .modem .refused ≡ m .refused)
 
-pub opened-counts : (m : Modem) (direction address said : ℕ) (number : TekNumber) (tek vector lent : ℕ)
-    → Counted m (openOf m direction address said number tek vector lent)
+pub opened-counts : (m : Modem) (direction address said : ℕ) (number : TekNumber) (write : List ℕ) (tek vector lent : ℕ)
+    → Counted m (openOf m direction address said number write tek vector lent)
 unfolding countedBy deliverReply steppedAt
-opened-counts m direction address said number tek vector lent =
-    open-by m direction address said number tek vector lent (Counted m)
+opened-counts m direction address said number write tek vector lent =
+    open-by m direction address said number write tek vector lent (Counted m)
     (λ e. record { done = refused-not OutOfLimits; unknown = λ q. absurd (omega arith); no-key = λ q. absurd (omega arith); other = λ a b c. (refl, refl) })
     (λ e. record { done = refused-not WrongLength; unknown = λ q. absurd (omega arith); no-key = λ q. absurd (omega arith); other = λ a b c. (refl, refl) })
     (λ e. record { done = refused-not UnknownSaid; unknown = λ q. (refl, refl); no-key = λ q. absurd (omega arith); other = λ a b c. absurd (b refl) })

@@ -1,6 +1,7 @@
 -- The machine that sealing and opening ask: what the parts of the code say of the definitions.
 use mathlib.Core.Path.{_≡_, refl, _∙_, ap}
 use mathlib.Core.Bool.{Bool, true, false, _&&_, cond}
+use mathlib.Core.List.{List}
 use Prim.Native.Nat.{ℕ, _≤_, _<_}
 use native.Mathlib.Omega.{arith}
 use lib.Dec.{leb, ltb, eqb}
@@ -17,6 +18,7 @@ use Rattle.modem_steps.specs.State.{noTek, slotAt}
 use Rattle.modem_steps.specs.Slots.{slotOfSaid}
 use Rattle.modem_receive.specs.Receive.{isKnown}
 use Rattle.modem_limits.specs.Limits.{modemFits}
+use Rattle.message_digest.specs.Digest.{messageKeyFits}
 use Rattle.modem_frames.specs.FrameRules.{pairSeals, pairOpens}
 use Rattle.modem_frames.specs.Frames.{machineOf, sealAnswer, openAnswer, sealAsked, openAsked}
 use Rattle.modem_frames.specs.FrameCalled.{knownMachine}
@@ -54,10 +56,11 @@ seal-asked m said tek vector =
     ap (λ (a : Answer). cond (modemFits m && leb said 16383) (cond (leb 16 tek && leb 16 vector) a (Refused WrongLength)) (Refused OutOfLimits))
     (after-known (isKnown m said) (λ t. pairSeals (m .clock) (t .pair)) (machineOf m said) noTek NoKeyToSeal UnknownSaid)
 
-pub open-asked : (m : Modem) (direction address said : ℕ) (number : TekNumber) (tek vector lent : ℕ)
-    → openAsked m direction address said number (knownMachine m said) tek vector lent ≡ openAnswer m direction address said number tek vector lent
+pub open-asked : (m : Modem) (direction address said : ℕ) (number : TekNumber) (write : List ℕ) (tek vector lent : ℕ)
+    → openAsked m direction address said number (knownMachine m said) (messageKeyFits write) tek vector lent
+    ≡ openAnswer m direction address said number write tek vector lent
 unfolding openAsked openAnswer knownMachine
-open-asked m direction address said number tek vector lent =
+open-asked m direction address said number write tek vector lent =
     ap (λ (a : Answer). cond (modemFits m && eqb direction 1 && ltb address 281474976710656 && leb said 16383 && tekInRange number)
-    (cond (leb 16 tek && leb 16 vector && leb 216 lent) a (Refused WrongLength)) (Refused OutOfLimits))
+    (cond (messageKeyFits write && leb 16 tek && leb 16 vector && leb 216 lent) a (Refused WrongLength)) (Refused OutOfLimits))
     (after-here (eqb address (m .address)) (isKnown m said) (λ t. pairOpens (m .clock) number (t .pair)) (machineOf m said) noTek NoKeyForFrame UnknownSaid)

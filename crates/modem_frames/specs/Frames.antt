@@ -19,6 +19,7 @@ use Rattle.modem_steps.specs.State.{slotAt, starting}
 use Rattle.modem_steps.specs.Slots.{slotOfSaid, deliver}
 use Rattle.modem_receive.specs.Receive.{isKnown}
 use Rattle.modem_limits.specs.Limits.{modemFits}
+use Rattle.message_digest.specs.Digest.{messageKeyFits}
 use Rattle.modem_calls.specs.Messages.{outOctets}
 use Rattle.modem_frames.specs.FrameRules.{pairSeals, pairOpening, pairOpens, countedBy}
 
@@ -31,7 +32,7 @@ abbrev pub machineOut : ℕ → TekNumber → Tek → KeyOut
 machineOut clock number t = openedBy (pairOpening clock number (t .pair)) (widthOf (t .suite)) (t .pair .older) (t .pair .newer)
 
 -- The answers, asked of the SAID's machine: 1, 2, 10 and 14 of a sealing, 1, 2, 10 and 13 of an opening. A frame comes down to the modem,
--- direction 1; its address is the modem's own
+-- direction 1; its address is the modem's own. `keys` says whether the message key has its length
 unfoldable pub sealAsked : Modem → ℕ → Tek → ℕ → ℕ → Answer
 sealAsked m said t tek vector =
     firstNo
@@ -41,14 +42,14 @@ sealAsked m said t tek vector =
     ∷ record { refusal = NoKeyToSeal; met = pairSeals (m .clock) (t .pair) }
     ∷ [])
 
-unfoldable pub openAsked : Modem → ℕ → ℕ → ℕ → TekNumber → Tek → ℕ → ℕ → ℕ → Answer
-openAsked m direction address said number t tek vector lent =
+unfoldable pub openAsked : Modem → ℕ → ℕ → ℕ → TekNumber → Tek → Bool → ℕ → ℕ → ℕ → Answer
+openAsked m direction address said number t keys tek vector lent =
     firstNo
     (record {
       refusal = OutOfLimits;
       met = modemFits m && eqb direction 1 && addressFits address && saidFits said && tekInRange number;
     }
-    ∷ record { refusal = WrongLength; met = leb 16 tek && leb 16 vector && leb 216 lent }
+    ∷ record { refusal = WrongLength; met = keys && leb 16 tek && leb 16 vector && leb 216 lent }
     ∷ record { refusal = UnknownSaid; met = eqb address (m .address) && isKnown m said }
     ∷ record { refusal = NoKeyForFrame; met = pairOpens (m .clock) number (t .pair) }
     ∷ [])
@@ -67,8 +68,9 @@ sealOf m said tek vector = sealedFor (sealAnswer m said tek vector) (widthOf (ma
 abbrev pub canOpen : Modem → ℕ → TekNumber → Bool
 canOpen m said number = pairOpens (m .clock) number (machineOf m said .pair)
 
-unfoldable pub openAnswer : Modem → ℕ → ℕ → ℕ → TekNumber → ℕ → ℕ → ℕ → Answer
-openAnswer m direction address said number tek vector lent = openAsked m direction address said number (machineOf m said) tek vector lent
+unfoldable pub openAnswer : Modem → ℕ → ℕ → ℕ → TekNumber → List ℕ → ℕ → ℕ → ℕ → Answer
+openAnswer m direction address said number write tek vector lent =
+    openAsked m direction address said number (machineOf m said) (messageKeyFits write) tek vector lent
 
 -- What opening gives: the answer, the modem after it, the key's octets, and the messages that go out
 pub record ModemOpened : Type 0 where
@@ -77,28 +79,28 @@ pub record ModemOpened : Type 0 where
   pub out : KeyOut
   pub sent : List ℕ
 
--- On 13 the SAID's machine takes event 5, and what that sends goes out
-abbrev pub missed : Bool → Answer → Modem → ℕ → ModemOpened
-missed is13 a m said =
+-- On 13 the SAID's machine takes event 5, and what that sends goes out, under the message key of what is written
+abbrev pub missed : Bool → Answer → Modem → ℕ → List ℕ → ModemOpened
+missed is13 a m said write =
     cond is13
     (record {
       answer = a;
       modem = countedBy 13 (deliver (starting m) (slotOfSaid m said) 5 .modem);
       out = noOut;
-      sent = outOctets (deliver (starting m) (slotOfSaid m said) 5 .out);
+      sent = outOctets write (deliver (starting m) (slotOfSaid m said) 5 .out);
     })
     (record { answer = a; modem = countedBy (answerNumber a) m; out = noOut; sent = [] })
 
-abbrev pub openedFor : Answer → Modem → ℕ → TekNumber → ModemOpened
-openedFor Done m said number =
+abbrev pub openedFor : Answer → Modem → ℕ → TekNumber → List ℕ → ModemOpened
+openedFor Done m said number write =
     record {
       answer = Done;
       modem = countedBy 0 m;
       out = machineOut (m .clock) number (machineOf m said);
       sent = [];
     }
-openedFor (Refused r) m said number = missed (eqb (answerNumber (Refused r)) 13) (Refused r) m said
+openedFor (Refused r) m said number write = missed (eqb (answerNumber (Refused r)) 13) (Refused r) m said write
 
-unfoldable pub openOf : Modem → ℕ → ℕ → ℕ → TekNumber → ℕ → ℕ → ℕ → ModemOpened
-openOf m direction address said number tek vector lent =
-    openedFor (openAnswer m direction address said number tek vector lent) m said number
+unfoldable pub openOf : Modem → ℕ → ℕ → ℕ → TekNumber → List ℕ → ℕ → ℕ → ℕ → ModemOpened
+openOf m direction address said number write tek vector lent =
+    openedFor (openAnswer m direction address said number write tek vector lent) m said number write

@@ -22,6 +22,7 @@ use key_traffic::sealing::SealedCall;
 use key_traffic::sealing::put_key;
 use key_traffic::sealing::put_opened;
 use key_traffic::suites::width;
+use message_digest::digest::message_key_fits;
 use message_rules::codes::SENT_OCTETS;
 use modem_calls::messages::put_out;
 use modem_limits::limits::modem_fits;
@@ -72,7 +73,7 @@ fn seal_answer(m: Modem, said: u16, t: Tek, tek: usize, vector: usize) -> Answer
     ask(q1, Refusal::OutOfLimits, a2)
 }
 
-// All questions of `open`.
+// All questions of `open`; `keys` says whether the message key has its length.
 fn open_answer(
     m: Modem,
     direction: u8,
@@ -80,11 +81,12 @@ fn open_answer(
     said: u16,
     number: TekNumber,
     t: Tek,
+    keys: bool,
     tek: usize,
     vector: usize,
     lent: usize,
 ) -> Answer
-    ensures { λ a. ⌜ a ≡ openAsked m direction address said number t tek vector lent ⌝ }
+    ensures { λ a. ⌜ a ≡ openAsked m direction address said number t keys tek vector lent ⌝ }
 {
     let pair = t.pair;
     let q1 = modem_fits(m)
@@ -92,7 +94,7 @@ fn open_answer(
         & (address < ADDRESS_BOUND)
         & (said <= SAID_MAX)
         & tek_in_range(number);
-    let q2 = (KEY_OCTETS <= tek) & (KEY_OCTETS <= vector) & (SENT_OCTETS <= lent);
+    let q2 = keys & (KEY_OCTETS <= tek) & (KEY_OCTETS <= vector) & (SENT_OCTETS <= lent);
     let q10 = (address == m.address) & is_known(m, said);
     let a13 = ask(
         can_open(m.clock, number, pair),
@@ -137,16 +139,16 @@ fn opened_call(answer: Answer, modem: Modem, width: usize, count: usize) -> Open
 }
 
 // Refused with 13: the SAID's machine takes event 5, and what it sends is written.
-fn missing(m: Modem, said: u16, a: Answer, out: &mut [u8]) -> OpenedCall
-    requires { ⌜ (modemFits m ≡ true) × ((isKnown m said ≡ true) × (216 ≤ length (now out))) ⌝ }
-    ensures { λ c. ⌜ (c ≡ openCalled (missed true a m said))
-        × (now (out .exit) ≡ overlay (now (out .entry)) (missed true a m said .sent)) ⌝ }
+fn missing(m: Modem, said: u16, a: Answer, write_key: &[u8], out: &mut [u8]) -> OpenedCall
+    requires { ⌜ (modemFits m ≡ true) × ((isKnown m said ≡ true) × ((length (now «write_key») ≡ 20) × (216 ≤ length (now out)))) ⌝ }
+    ensures { λ c. ⌜ (c ≡ openCalled (missed true a m said (now («write_key» .entry))))
+        × (now (out .exit) ≡ overlay (now (out .entry)) (missed true a m said (now («write_key» .entry)) .sent)) ⌝ }
 {
     let i = slot_of_said(m, said);
     let w = start(m).deliver(i, TEK_EVENT_INVALID);
     let o = w.out;
     let after = w.modem;
-    let n = put_out(o, out);
+    let n = put_out(o, write_key, out);
     let next = counted(NO_KEY_FOR_FRAME, after);
     opened_call(a, next, 0, n)
 }
@@ -176,18 +178,19 @@ pub fn seal(m: Modem, said: u16, tek: &mut [u8], vector: &mut [u8]) -> SealedCal
     }
 }
 
-// The key that opens a frame, where one held does.
+// The key that opens a frame, where one held does; what 13 sends has its digests under `write_key`.
 pub fn open(
     m: Modem,
     direction: u8,
     address: u64,
     said: u16,
     number: TekNumber,
+    write_key: &[u8],
     tek: &mut [u8],
     vector: &mut [u8],
     out: &mut [u8],
 ) -> OpenedCall
-    ensures { λ r. ⌜ OpenGives (openOf m direction address said number (length (now (tek .entry))) (length (now (vector .entry))) (length (now (out .entry))))
+    ensures { λ r. ⌜ OpenGives (openOf m direction address said number (now («write_key» .entry)) (length (now (tek .entry))) (length (now (vector .entry))) (length (now (out .entry))))
         (now (tek .entry)) (now (vector .entry)) (now (out .entry)) r (now (tek .exit)) (now (vector .exit)) (now (out .exit)) ⌝ }
 {
     let t = machine_of(m, said);
@@ -198,13 +201,14 @@ pub fn open(
         said,
         number,
         t,
+        message_key_fits(write_key),
         tek.len(),
         vector.len(),
         out.len(),
     );
     let n = answer_number(a);
     if n == NO_KEY_FOR_FRAME {
-        return missing(m, said, a, out);
+        return missing(m, said, a, write_key, out);
     }
     let next = counted(n, m);
     if n != DONE {

@@ -3,7 +3,7 @@ use mathlib.Core.Path.{_≡_, refl, sym, _∙_, ap, subst}
 use mathlib.Core.Bool.{true, false}
 use mathlib.Core.List.{List, [], _∷_, _++_}
 use mathlib.Core.Option.{Option, none, some}
-use Prim.Native.Nat.{ℕ, _+_, _*_, _≤_, _<_}
+use Prim.Native.Nat.{ℕ, _+_, _≤_, _<_}
 use native.Mathlib.Omega.{arith}
 use lib.ListN.{length, take, drop, replicate, length-append, length-drop}
 use borrow.Author.Tests.{lt-leb}
@@ -17,7 +17,6 @@ use Rattle.replay_fields.specs.declared.octets.Place.{Place}
 use Rattle.replay_answer.specs.Answer.{answerText, Room}
 use Rattle.text.proofs.HexLaws.{octets-length}
 use Rattle.replay_fields.specs.Fields.{isLine}
-use Rattle.text.specs.Hex.{octetsOf}
 use Rattle.replay_read.specs.Call.{LineCall, callOf}
 use Rattle.replay_read.specs.Reads.{Reads}
 use Rattle.replay_apply.specs.declared.ends.Ends.{Ends}
@@ -26,7 +25,7 @@ use Rattle.replay_apply.specs.Steps.{worldOf, stepFor}
 use Rattle.replay_apply.specs.Gave.{gaveOf}
 use Rattle.replay_apply.specs.Applied.{appliedOf}
 use Rattle.replay.specs.declared.turn.Turned.{Turned}
-use Rattle.replay.specs.Turn.{noCallText, answeredBy, endsAfter, turnTextFor, turnEndsFor, AnswersStep}
+use Rattle.replay.specs.Turn.{stepForLine, octetsAt, Within, stepRead, PlacesFit, noCallText, answeredBy, endsAfter, turnTextFor, turnEndsFor, AnswersStep}
 
 -- The octets in front are those that were written
 pub take-front : (w rest : List ℕ) → take (length w) (w ++ rest) ≡ w
@@ -40,13 +39,13 @@ written-fits lent w after e =
     omega (arith, parts)
 
 -- ---- a call that was applied, with the slices lent to it after it
-module _ (e : Ends) (c : Call) (octets key : List ℕ) (a : Applied) (tek vector sent : List ℕ)
-    (is : a ≡ appliedOf (worldOf e) (stepFor c octets key 16 16 342))
-    (tek-is : tek ≡ overlay (replicate 16 0) (gaveOf (worldOf e) (stepFor c octets key 16 16 342) .out .tek))
-    (vector-is : vector ≡ overlay (replicate 16 0) (gaveOf (worldOf e) (stepFor c octets key 16 16 342) .out .vector))
-    (sent-is : sent ≡ overlay (replicate 342 0) (gaveOf (worldOf e) (stepFor c octets key 16 16 342) .sent)) where
+module _ (e : Ends) (c : Call) (octets auth read write : List ℕ) (a : Applied) (tek vector sent : List ℕ)
+    (is : a ≡ appliedOf (worldOf e) (stepFor c octets auth read write 16 16 342))
+    (tek-is : tek ≡ overlay (replicate 16 0) (gaveOf (worldOf e) (stepFor c octets auth read write 16 16 342) .out .tek))
+    (vector-is : vector ≡ overlay (replicate 16 0) (gaveOf (worldOf e) (stepFor c octets auth read write 16 16 342) .out .vector))
+    (sent-is : sent ≡ overlay (replicate 342 0) (gaveOf (worldOf e) (stepFor c octets auth read write 16 16 342) .sent)) where
   abbrev s : Step
-  s = stepFor c octets key 16 16 342
+  s = stepFor c octets auth read write 16 16 342
 
   wide : a .width ≡ length (gaveOf (worldOf e) s .out .tek)
   wide = ap (λ (y : Applied). y .width) is
@@ -114,40 +113,40 @@ says-none e line out after none c r reads isnt p q = (ap (λ (y : Turned). y .en
 says-none e line out after (some t) c r reads isnt p q =
     let z : true ≡ false = sym (reads .call-there) ∙ isnt in let y : _≡_ {A = ℕ} 0 1 = cc in absurd (omega arith)
 
--- One that says a call is that call's step, with the octets and the key that it says
+-- One that says a call is that call's step, with the octets and the keys that it says
 abbrev Answers : Ends → Step → Kind → List ℕ → Turned → List ℕ → Type 0
 Answers e s k out r after = AnswersStep e s k out (r .ends) (r .count) after
 
-abbrev stepRead : ReadCall → List ℕ → Step
-stepRead c line =
-    stepFor (c .call) (octetsOf (take (2 * c .octets .count) (drop (c .octets .at) line))) (octetsOf (take (2 * c .key .count) (drop (c .key .at) line))) 16 16 342
+same-step : (c : Call) (o o′ a a′ k k′ w w′ : List ℕ) → o ≡ o′ → a ≡ a′ → k ≡ k′ → w ≡ w′ → stepFor c o a k w 16 16 342 ≡ stepFor c o′ a′ k′ w′ 16 16 342
+same-step c o o′ a a′ k k′ w w′ p q r s =
+    ap (λ (l : List ℕ). stepFor c l a k w 16 16 342) p ∙ ap (λ (l : List ℕ). stepFor c o′ l k w 16 16 342) q
+    ∙ ap (λ (l : List ℕ). stepFor c o′ a′ l w 16 16 342) r ∙ ap (λ (l : List ℕ). stepFor c o′ a′ k′ l 16 16 342) s
 
 pub says-call : (e : Ends) (line out after : List ℕ) (o : Option LineCall) (c : ReadCall) (r : Turned) → Reads line o c → c .«is_call» ≡ true
     → Answers e (stepRead c line) (c .call .kind) out r after → Turns e o out r after
 says-call e line out after none c r reads yes′ h =
     let z : true ≡ false = sym yes′ ∙ reads .call-there in let y : _≡_ {A = ℕ} 0 1 = cc in absurd (omega arith)
 says-call e line out after (some t) c r reads yes′ h =
-    let step : stepRead c line ≡ stepFor (t .call) (t .octets) (t .key) 16 16 342 =
-    ap (λ (l : List ℕ). stepFor (c .call) l (octetsOf (take (2 * c .key .count) (drop (c .key .at) line))) 16 16 342) (reads .octets-at .says)
-    ∙ ap (λ (l : List ℕ). stepFor (c .call) (t .octets) l 16 16 342) (reads .key-at .says)
-    ∙ ap (λ (k : Call). stepFor k (t .octets) (t .key) 16 16 342) (reads .call-is) in
+    let step : stepRead c line ≡ stepForLine t =
+    same-step (c .call) _ _ _ _ _ _ _ _ (reads .octets-at .says) (reads .auth-at .says) (reads .read-at .says) (reads .write-at .says)
+    ∙ ap (λ (k : Call). stepFor k (t .octets) (t .auth) (t .read) (t .write) 16 16 342) (reads .call-is) in
     let stepped = subst (λ (x : Step). Answers e x (c .call .kind) out r after) step h in
-    subst (λ (k : Kind). Answers e (stepFor (t .call) (t .octets) (t .key) 16 16 342) k out r after) (ap (λ (k : Call). k .kind) (reads .call-is)) stepped
+    subst (λ (k : Kind). Answers e (stepForLine t) k out r after) (ap (λ (k : Call). k .kind) (reads .call-is)) stepped
 
--- ---- the octets and the key of a line, taken out of it
-octets-taken : (line out : List ℕ) (p : Place) (after : List ℕ) → after ≡ overlay out (octetsOf (take (2 * p .count) (drop (p .at) line)))
-    → p .at + 2 * p .count ≤ length line → take (p .count) after ≡ octetsOf (take (2 * p .count) (drop (p .at) line))
+-- ---- the octets and the keys of a line, taken out of it
+octets-taken : (line out : List ℕ) (p : Place) (after : List ℕ) → after ≡ overlay out (octetsAt line p) → Within p line → take (p .count) after ≡ octetsAt line p
 octets-taken line out p after e h =
-    let w = octetsOf (take (2 * p .count) (drop (p .at) line)) in
+    let w = octetsAt line p in
     let n : length w ≡ p .count = octets-length (p .count) (drop (p .at) line) (simp length-drop (omega arith)) in
     ap (λ k. take k after) (sym n) ∙ ap (take (length w)) e ∙ take-front w (drop (length w) out)
 
-pub call-line : (e : Ends) (line : List ℕ) (c : Call) (o k : Place) (octets key out after : List ℕ) (r : Turned)
-    → octets ≡ overlay (replicate 8192 0) (octetsOf (take (2 * o .count) (drop (o .at) line)))
-    → key ≡ overlay (replicate 8192 0) (octetsOf (take (2 * k .count) (drop (k .at) line)))
-    → o .at + 2 * o .count ≤ length line → k .at + 2 * k .count ≤ length line
-    → Answers e (stepFor c (take (o .count) octets) (take (k .count) key) 16 16 342) (c .kind) out r after
-    → Answers e (stepFor c (octetsOf (take (2 * o .count) (drop (o .at) line))) (octetsOf (take (2 * k .count) (drop (k .at) line))) 16 16 342) (c .kind) out r after
-call-line e line c o k octets key out after r p q h i x =
-    let one = subst (λ (l : List ℕ). Answers e (stepFor c l (take (k .count) key) 16 16 342) (c .kind) out r after) (octets-taken line (replicate 8192 0) o octets p h) x in
-    subst (λ (l : List ℕ). Answers e (stepFor c (octetsOf (take (2 * o .count) (drop (o .at) line))) l 16 16 342) (c .kind) out r after) (octets-taken line (replicate 8192 0) k key q i) one
+pub call-line : (e : Ends) (line : List ℕ) (c : ReadCall) (octets auth read write out after : List ℕ) (r : Turned) → PlacesFit c line
+    → octets ≡ overlay (replicate 8192 0) (octetsAt line (c .octets)) → auth ≡ overlay (replicate 8192 0) (octetsAt line (c .auth))
+    → read ≡ overlay (replicate 8192 0) (octetsAt line (c .read)) → write ≡ overlay (replicate 8192 0) (octetsAt line (c .write))
+    → Answers e (stepFor (c .call) (take (c .octets .count) octets) (take (c .auth .count) auth) (take (c .read .count) read) (take (c .write .count) write) 16 16 342) (c .call .kind) out r after
+    → Answers e (stepRead c line) (c .call .kind) out r after
+call-line e line c octets auth read write out after r f p q s u x =
+    subst (λ (z : Step). Answers e z (c .call .kind) out r after)
+    (same-step (c .call) _ _ _ _ _ _ _ _ (octets-taken line (replicate 8192 0) (c .octets) octets p (f .octets)) (octets-taken line (replicate 8192 0) (c .auth) auth q (f .auth))
+    (octets-taken line (replicate 8192 0) (c .read) read s (f .read)) (octets-taken line (replicate 8192 0) (c .write) write u (f .write)))
+    x

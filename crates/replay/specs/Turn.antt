@@ -2,11 +2,14 @@
 use mathlib.Core.Path.{_≡_}
 use mathlib.Core.List.{List, [], _∷_}
 use mathlib.Core.Option.{Option, none, some}
-use Prim.Native.Nat.{ℕ}
-use lib.ListN.{length, take, replicate}
+use Prim.Native.Nat.{ℕ, _+_, _*_, _≤_}
+use lib.ListN.{length, take, drop, replicate}
 use Rattle.key_traffic.specs.Octets.{overlay}
 use Rattle.replay_read.specs.declared.calls.Kind.{Kind}
 use Rattle.demand_plant.specs.World.{Step, stepOf}
+use Rattle.text.specs.Hex.{octetsOf}
+use Rattle.replay_fields.specs.declared.octets.Place.{Place}
+use Rattle.replay_read.specs.declared.call.ReadCall.{ReadCall}
 use Rattle.replay_read.specs.Call.{LineCall, callOf}
 use Rattle.replay_answer.specs.Answer.{answerText}
 use Rattle.replay_apply.specs.declared.ends.Ends.{Ends}
@@ -14,7 +17,25 @@ use Rattle.replay_apply.specs.Steps.{worldOf, endsOf, stepFor}
 use Rattle.replay_apply.specs.Gave.{gaveOf}
 
 abbrev pub stepForLine : LineCall → Step
-stepForLine t = stepFor (t .call) (t .octets) (t .key) 16 16 342
+stepForLine t = stepFor (t .call) (t .octets) (t .auth) (t .read) (t .write) 16 16 342
+
+-- ---- the same by places of the line: the octets that the digits there say, and the step of a call whose octets and keys stand at its places
+abbrev pub octetsAt : List ℕ → Place → List ℕ
+octetsAt line p = octetsOf (take (2 * p .count) (drop (p .at) line))
+
+abbrev pub Within : Place → List ℕ → Type 0
+Within p line = p .at + 2 * p .count ≤ length line
+
+abbrev pub stepRead : ReadCall → List ℕ → Step
+stepRead r line =
+    stepFor (r .call) (octetsAt line (r .octets)) (octetsAt line (r .auth)) (octetsAt line (r .read)) (octetsAt line (r .write)) 16 16 342
+
+-- The line has the digits of each
+pub record PlacesFit (r : ReadCall) (line : List ℕ) : Type 0 where
+  pub octets : Within (r .octets) line
+  pub auth : Within (r .auth) line
+  pub read : Within (r .read) line
+  pub write : Within (r .write) line
 
 -- "?" and a line feed: the line is no call
 abbrev pub noCallText : List ℕ

@@ -1,11 +1,10 @@
 // A line that is a call, applied to both ends, and its answer.
 ghost use mathlib.Core.Path.{_≡_};
-ghost use Prim.Native.Nat.{_+_, _*_, _≤_};
-ghost use lib.ListN.{length, take, drop};
+ghost use Prim.Native.Nat.{_≤_};
+ghost use lib.ListN.{length};
 ghost use Rattle.key_traffic.specs.Octets.{overlay};
 ghost use Rattle.replay_apply.specs.Steps.{stepFor};
-ghost use Rattle.text.specs.Hex.{octetsOf};
-ghost use Rattle.replay.specs.Turn.{noCallText, AnswersStep, AnswersLine};
+ghost use Rattle.replay.specs.Turn.{noCallText, stepRead, PlacesFit, AnswersStep, AnswersLine};
 use crate::lines::put_no_call;
 use key_traffic::octets::KEY_OCTETS;
 use message_rules::codes::ANSWER_OCTETS;
@@ -13,7 +12,7 @@ use replay_answer::answer::put_answer;
 use replay_apply::apply::apply;
 use replay_apply::ends::Ends;
 use replay_fields::fields::LINE_MAX;
-use replay_fields::octets::Place;
+use replay_read::call::ReadCall;
 use replay_read::call::read_call;
 use replay_read::calls::Call;
 use text::hex::put_octets_at;
@@ -27,17 +26,35 @@ pub struct Turned {
     pub ends: Ends,
 }
 
-// A call with its octets and its key, applied; the answer is written.
-fn applied_line(e: Ends, c: Call, octets: &[u8], key: &[u8], out: &mut [u8]) -> Turned
+// A call with its octets and its keys, applied; the answer is written.
+fn applied_line(
+    e: Ends,
+    c: Call,
+    octets: &[u8],
+    auth: &[u8],
+    read: &[u8],
+    write: &[u8],
+    out: &mut [u8],
+) -> Turned
     requires { ⌜ 1024 ≤ length (now out) ⌝ }
-    ensures { λ r. ⌜ AnswersStep e (stepFor c (now (octets .entry)) (now (key .entry)) 16 16 342) (c .kind) (now (out .entry))
+    ensures { λ r. ⌜ AnswersStep e (stepFor c (now (octets .entry)) (now (auth .entry)) (now (read .entry)) (now (write .entry)) 16 16 342) (c .kind) (now (out .entry))
         (r .ends) (r .count) (now (out .exit)) ⌝ }
     ensures { λ r. ⌜ r .count ≤ 1024 ⌝ }
 {
     let mut tek = [0u8; KEY_OCTETS];
     let mut vector = [0u8; KEY_OCTETS];
     let mut sent = [0u8; ANSWER_OCTETS];
-    let a = apply(e, c, octets, key, &mut tek, &mut vector, &mut sent);
+    let a = apply(
+        e,
+        c,
+        octets,
+        auth,
+        read,
+        write,
+        &mut tek,
+        &mut vector,
+        &mut sent,
+    );
     let width = a.width;
     let count = a.count;
     let ends = a.ends;
@@ -58,20 +75,34 @@ fn applied_line(e: Ends, c: Call, octets: &[u8], key: &[u8], out: &mut [u8]) -> 
     }
 }
 
-// The call of a line, with its octets and its key taken out of it.
-fn call_line(e: Ends, line: &[u8], c: Call, o: Place, k: Place, out: &mut [u8]) -> Turned
-    requires { ⌜ (o .at + 2 * o .count ≤ length (now line)) × ((k .at + 2 * k .count ≤ length (now line)) × ((length (now line) ≤ 16384) × (1024 ≤ length (now out)))) ⌝ }
-    ensures { λ r. ⌜ AnswersStep e (stepFor c (octetsOf (take (2 * o .count) (drop (o .at) (now (line .entry))))) (octetsOf (take (2 * k .count) (drop (k .at) (now (line .entry))))) 16 16 342)
-        (c .kind) (now (out .entry)) (r .ends) (r .count) (now (out .exit)) ⌝ }
-    ensures { λ r. ⌜ r .count ≤ 1024 ⌝ }
+// The call of a line, with its octets and its keys taken out of it.
+fn call_line(e: Ends, line: &[u8], r: ReadCall, out: &mut [u8]) -> Turned
+    requires { ⌜ PlacesFit r (now line) × ((length (now line) ≤ 16384) × (1024 ≤ length (now out))) ⌝ }
+    ensures { λ t. ⌜ AnswersStep e (stepRead r (now (line .entry))) (r .call .kind) (now (out .entry)) (t .ends) (t .count) (now (out .exit)) ⌝ }
+    ensures { λ t. ⌜ t .count ≤ 1024 ⌝ }
 {
+    let c = r.call;
+    let o = r.octets;
+    let a = r.auth;
+    let k = r.read;
+    let w = r.write;
     let mut octets = [0u8; LINE_OCTETS];
-    let mut key = [0u8; LINE_OCTETS];
-    let n = o.count;
-    let m = k.count;
-    put_octets_at(line, o.at, n, &mut octets);
-    put_octets_at(line, k.at, m, &mut key);
-    applied_line(e, c, &octets[..n], &key[..m], out)
+    let mut auth = [0u8; LINE_OCTETS];
+    let mut read = [0u8; LINE_OCTETS];
+    let mut write = [0u8; LINE_OCTETS];
+    put_octets_at(line, o.at, o.count, &mut octets);
+    put_octets_at(line, a.at, a.count, &mut auth);
+    put_octets_at(line, k.at, k.count, &mut read);
+    put_octets_at(line, w.at, w.count, &mut write);
+    applied_line(
+        e,
+        c,
+        &octets[..o.count],
+        &auth[..a.count],
+        &read[..k.count],
+        &write[..w.count],
+        out,
+    )
 }
 
 // A line that is no call leaves the ends as they were.
@@ -96,8 +127,5 @@ pub fn turn(e: Ends, line: &[u8], out: &mut [u8]) -> Turned
     if !r.is_call {
         return no_call(e, out);
     }
-    let c = r.call;
-    let o = r.octets;
-    let k = r.key;
-    call_line(e, line, c, o, k, out)
+    call_line(e, line, r, out)
 }

@@ -1,7 +1,7 @@
 -- What the calls of both ends give is what plant's step says of them.
 use mathlib.Core.Path.{_≡_, refl, sym, _∙_, ap, subst}
 use mathlib.Core.Bool.{Bool, true, false, cond, _&&_}
-use mathlib.Core.List.{List, [], _++_}
+use mathlib.Core.List.{List, []}
 use Prim.Native.Nat.{ℕ}
 use lib.ListN.{length}
 use Rattle.key_traffic.specs.declared.numbers.TekNumber.{TekNumber}
@@ -32,8 +32,9 @@ use Rattle.modem_steps.specs.declared.state.Called.{Called as ModemCalled}
 use Rattle.modem_steps.specs.State.{starting}
 use Rattle.modem_steps.specs.Machine.{plainEvent}
 use Rattle.modem_steps.specs.Clock.{clocked}
-use Rattle.modem_receive.specs.Receive.{receiveQuestions, received, fieldsIn}
+use Rattle.modem_receive.specs.Receive.{received, fieldsIn}
 use Rattle.modem_frames.specs.declared.rules.OpenedCall.{OpenedCall as ModemOpenedCall}
+use Rattle.modem_calls.specs.Messages.{noKey}
 use Rattle.modem_calls.specs.Calls as Mdm
 use Rattle.modem_calls.specs.Calls.{resultOf, firstQuestions, clockAnswer, eventOf, clockOf, receiveOf}
 use Rattle.modem_frames.specs.Frames as ModemFrames
@@ -64,31 +65,31 @@ list-count : (a : Answer) (h : HeadEnd) (address allowed : ℕ) (l : Listing) �
 list-count Done h address allowed l = refl
 list-count (Refused r) h address allowed l = refl
 
-receive-count : (a : Answer) (h : HeadEnd) (w : Reaction) (key : List ℕ) → calledFor a h w key .count ≡ length (writtenFor a w key)
-receive-count Done h w key = refl
-receive-count (Refused r) h w key = refl
+receive-count : (a : Answer) (h : HeadEnd) (w : Reaction) (auth write : List ℕ) → calledFor a h w auth write .count ≡ length (writtenFor a w auth write)
+receive-count Done h w auth write = refl
+receive-count (Refused r) h w auth write = refl
 
-modem-count : (a : Answer) (m : Modem) (w : Progress) → resultOf a m w .called .count ≡ length (resultOf a m w .written)
-modem-count Done m w = refl
-modem-count (Refused r) m w = refl
+modem-count : (a : Answer) (m : Modem) (key : List ℕ) (w : Progress) → resultOf a m key w .called .count ≡ length (resultOf a m key w .written)
+modem-count Done m key w = refl
+modem-count (Refused r) m key w = refl
 
 listed-none : (h : HeadEnd) (address allowed : ℕ) (l : Listing) (bad clash len octets : ℕ) → listCalled h address allowed l bad clash len octets .count ≡ 0
 unfolding listCalled
 listed-none h address allowed l bad clash len octets = list-count (listAnswer h address allowed l bad clash len octets) h address allowed l
 
-received-count : (h : HeadEnd) (bad len : ℕ) (f : Found) (address : ℕ) (digest : Bool) (x : Reading) (key : List ℕ) (lent : ℕ)
-    → receiveCalled h bad len f address digest x key lent .count ≡ length (receiveWritten h bad len f address digest x key lent)
+received-count : (h : HeadEnd) (bad len : ℕ) (f : Found) (address : ℕ) (digest keys : Bool) (x : Reading) (auth write : List ℕ) (lent : ℕ)
+    → receiveCalled h bad len f address digest keys x auth write lent .count ≡ length (receiveWritten h bad len f address digest keys x auth write lent)
 unfolding receiveCalled receiveWritten
-received-count h bad len f address digest x key lent =
-    receive-count (receiveAnswer h bad len f address digest x (length key) lent) h (reactionTo h f address digest x) key
+received-count h bad len f address digest keys x auth write lent =
+    receive-count (receiveAnswer h bad len f address digest keys x (length auth) lent) h (reactionTo h f address digest x) auth write
 
 event-count : (n : ℕ) (m : Modem) (lent : ℕ) → eventOf n m lent .called .count ≡ length (eventOf n m lent .written)
 unfolding eventOf
-event-count n m lent = modem-count (firstNo (firstQuestions m lent)) m (plainEvent (starting m) n)
+event-count n m lent = modem-count (firstNo (firstQuestions m true lent)) m noKey (plainEvent (starting m) n)
 
-message-count : (m : Modem) (s : List ℕ) (digest : Bool) (lent : ℕ) → receiveOf m s digest lent .called .count ≡ length (receiveOf m s digest lent .written)
+message-count : (m : Modem) (s read write : List ℕ) (lent : ℕ) → receiveOf m s read write lent .called .count ≡ length (receiveOf m s read write lent .written)
 unfolding receiveOf
-message-count m s digest lent = modem-count (firstNo (firstQuestions m lent ++ receiveQuestions m s digest)) m (received m (fieldsIn s))
+message-count m s read write lent = modem-count (Mdm.receiveAnswer m s read write lent) m write (received m (fieldsIn s))
 
 -- ---- the head-end
 pub list-applied : (e : Ends) (address allowed : ℕ) (l : Listing) (m : List ℕ) (c : Called) (records : List Assoc) (r : Applied)
@@ -102,13 +103,13 @@ list-applied e address allowed l m c records r p q s =
     ∙ ap (λ k. quietOf (answerNumber (Head.listOf (e .head) (e .records) address allowed l m .answer)) k (Head.listOf (e .head) (e .records) address allowed l m .state) (Head.listRecords (e .head) (e .records) address allowed l m) (e .modem))
     (listed-none (e .head) address allowed l _ _ _ _)
 
-pub up-applied : (e : Ends) (address : ℕ) (digest : Bool) (s key : List ℕ) (lent : ℕ) (c : Called) (r : Applied)
-    → r ≡ quietHead c (e .records) (e .modem) → c ≡ Head.receiveOf (e .head) (e .records) address digest s key lent
-    → r ≡ appliedOf (worldOf e) (up address digest s key lent)
-up-applied e address digest s key lent c r p q =
+pub up-applied : (e : Ends) (address : ℕ) (read write s auth : List ℕ) (lent : ℕ) (c : Called) (r : Applied)
+    → r ≡ quietHead c (e .records) (e .modem) → c ≡ Head.receiveOf (e .head) (e .records) address read write s auth lent
+    → r ≡ appliedOf (worldOf e) (up address read write s auth lent)
+up-applied e address read write s auth lent c r p q =
     p ∙ ap (λ (y : Called). quietHead y (e .records) (e .modem)) q
-    ∙ ap (λ k. quietOf (answerNumber (Head.receiveOf (e .head) (e .records) address digest s key lent .answer)) k (Head.receiveOf (e .head) (e .records) address digest s key lent .state) (e .records) (e .modem))
-    (received-count (e .head) _ _ _ address digest _ key lent)
+    ∙ ap (λ k. quietOf (answerNumber (Head.receiveOf (e .head) (e .records) address read write s auth lent .answer)) k (Head.receiveOf (e .head) (e .records) address read write s auth lent .state) (e .records) (e .modem))
+    (received-count (e .head) _ _ _ address _ _ _ auth write lent)
 
 -- ---- the modem
 pub modem-applied : (e : Ends) (c d : ModemCalled) (r : Applied) (n : ℕ) → r ≡ quietModem c (e .head) (e .records) → c ≡ d → d .count ≡ n
@@ -124,9 +125,9 @@ pub reauth-applied : (e : Ends) (lent : ℕ) (c : ModemCalled) (r : Applied)
     → r ≡ quietModem c (e .head) (e .records) → c ≡ Mdm.reauthOf (e .modem) lent .called → r ≡ appliedOf (worldOf e) (reauth lent)
 reauth-applied e lent c r p q = modem-applied e c _ r _ p q (event-count 8 (e .modem) lent)
 
-pub down-applied : (e : Ends) (digest : Bool) (s : List ℕ) (lent : ℕ) (c : ModemCalled) (r : Applied)
-    → r ≡ quietModem c (e .head) (e .records) → c ≡ receiveOf (e .modem) s digest lent .called → r ≡ appliedOf (worldOf e) (down digest s lent)
-down-applied e digest s lent c r p q = modem-applied e c _ r _ p q (message-count (e .modem) s digest lent)
+pub down-applied : (e : Ends) (read write s : List ℕ) (lent : ℕ) (c : ModemCalled) (r : Applied)
+    → r ≡ quietModem c (e .head) (e .records) → c ≡ receiveOf (e .modem) s read write lent .called → r ≡ appliedOf (worldOf e) (down read write s lent)
+down-applied e read write s lent c r p q = modem-applied e c _ r _ p q (message-count (e .modem) s read write lent)
 
 -- ---- the clock: the modem's part, then both
 abbrev clockedWith : ModemCalled → Ends → HeadEnd → List Assoc → Applied
@@ -145,25 +146,25 @@ clock-done e head records c d r p s t =
     ∙ ap (λ (y : ModemCalled). clockedWith y e head records) s
 
 -- What a call that is refused writes
-none-written : (a : Answer) (m : Modem) (w : Progress) → resultOf a m w .written ≡ cond (isDone (resultOf a m w .called .answer)) (resultOf a m w .written) []
-none-written Done m w = refl
-none-written (Refused r) m w = refl
+none-written : (a : Answer) (m : Modem) (key : List ℕ) (w : Progress) → resultOf a m key w .written ≡ cond (isDone (resultOf a m key w .called .answer)) (resultOf a m key w .written) []
+none-written Done m key w = refl
+none-written (Refused r) m key w = refl
 
-result-answer : (a : Answer) (m : Modem) (w : Progress) → a ≡ resultOf a m w .called .answer
-result-answer Done m w = refl
-result-answer (Refused r) m w = refl
+result-answer : (a : Answer) (m : Modem) (key : List ℕ) (w : Progress) → a ≡ resultOf a m key w .called .answer
+result-answer Done m key w = refl
+result-answer (Refused r) m key w = refl
 
 -- the modem's questions alone tell what its clock call answers
-pub clock-answered : (m : Modem) (t lent : ℕ) → clockAnswer m t lent ≡ clockOf m t lent .called .answer
+pub clock-answered : (m : Modem) (t : ℕ) (write : List ℕ) (lent : ℕ) → clockAnswer m t write lent ≡ clockOf m t write lent .called .answer
 unfolding clockOf
-clock-answered m t lent = result-answer (clockAnswer m t lent) m (clocked m t)
+clock-answered m t write lent = result-answer (clockAnswer m t write lent) m write (clocked m t)
 
-module _ (e : Ends) (t : ℕ) (m : List ℕ) (lent : ℕ) where
+module _ (e : Ends) (t : ℕ) (m write : List ℕ) (lent : ℕ) where
   abbrev headCalled : Called
   headCalled = Head.clockOf (e .head) (e .records) t m
 
   abbrev modemResult : Mdm.Result
-  modemResult = Mdm.clockOf (e .modem) t lent
+  modemResult = Mdm.clockOf (e .modem) t write lent
 
   abbrev headNumber : ℕ
   headNumber = answerNumber (headCalled .answer)
@@ -178,19 +179,19 @@ module _ (e : Ends) (t : ℕ) (m : List ℕ) (lent : ℕ) where
         number = n;
         key = record { 0 = 0 };
         width = 0;
-        count = length (clockWrote (a && b) (worldOf e) t lent);
-        ends = endsOf (clockedBy (a && b) (worldOf e) t m lent);
+        count = length (clockWrote (a && b) (worldOf e) t write lent);
+        ends = endsOf (clockedBy (a && b) (worldOf e) t m write lent);
       }
 
   -- the head-end refuses: the number of the earlier question, a and b being those of the ends
   pub clock-head-refused : (c : Called) (n a b : ℕ) (r : Applied) (out : List ℕ)
       → r ≡ refusedOf n e → n ≡ earliest a b → a ≡ answerNumber (c .answer) → b ≡ answerNumber (modemResult .called .answer) → c ≡ headCalled → isDone (c .answer) ≡ false
-      → (r ≡ appliedOf (worldOf e) (clock t m lent)) × (out ≡ overlay out (gaveOf (worldOf e) (clock t m lent) .sent))
+      → (r ≡ appliedOf (worldOf e) (clock t m write lent)) × (out ≡ overlay out (gaveOf (worldOf e) (clock t m write lent) .sent))
   clock-head-refused c n a b r out p f q g s d = (
     p ∙ ap (λ k. refusedOf k e)
         (f ∙ ap (λ k. earliest k b) (q ∙ ap (λ (y : Called). answerNumber (y .answer)) s) ∙ ap (earliest headNumber) g)
         ∙ ap (λ x. bothOf (earliest headNumber modemNumber) x (isDone (modemResult .called .answer))) (sym no),
-    ap (λ b. overlay out (clockWrote (b && isDone (modemResult .called .answer)) (worldOf e) t lent)) (sym no),
+    ap (λ b. overlay out (clockWrote (b && isDone (modemResult .called .answer)) (worldOf e) t write lent)) (sym no),
   )
     where
       no : isDone (headCalled .answer) ≡ false
@@ -201,29 +202,29 @@ module _ (e : Ends) (t : ℕ) (m : List ℕ) (lent : ℕ) where
   modem-part true k = ap (λ n. quietOf (answerNumber (modemResult .called .answer)) n (headCalled .state) (Head.clockRecords (e .head) (e .records) t m) (modemResult .called .modem)) k
   modem-part false k = refl
 
-  modem-wrote : (b : Bool) → cond b (modemResult .written) [] ≡ clockWrote (true && b) (worldOf e) t lent
+  modem-wrote : (b : Bool) → cond b (modemResult .written) [] ≡ clockWrote (true && b) (worldOf e) t write lent
   modem-wrote true = refl
   modem-wrote false = refl
 
   clock-count : modemResult .called .count ≡ length (modemResult .written)
   unfolding clockOf
-  clock-count = modem-count (clockAnswer (e .modem) t lent) (e .modem) (clocked (e .modem) t)
+  clock-count = modem-count (clockAnswer (e .modem) t write lent) (e .modem) write (clocked (e .modem) t)
 
   clock-wrote : modemResult .written ≡ cond (isDone (modemResult .called .answer)) (modemResult .written) []
   unfolding clockOf
-  clock-wrote = none-written (clockAnswer (e .modem) t lent) (e .modem) (clocked (e .modem) t)
+  clock-wrote = none-written (clockAnswer (e .modem) t write lent) (e .modem) write (clocked (e .modem) t)
 
   pub clock-both : (c : Called) (records : List Assoc) (r : Applied) (out after : List ℕ)
       → r ≡ clockedWith (modemResult .called) e (c .state) records → after ≡ overlay out (modemResult .written)
       → c ≡ headCalled → records ≡ Head.clockRecords (e .head) (e .records) t m → isDone (c .answer) ≡ true
-      → (r ≡ appliedOf (worldOf e) (clock t m lent)) × (after ≡ overlay out (gaveOf (worldOf e) (clock t m lent) .sent))
+      → (r ≡ appliedOf (worldOf e) (clock t m write lent)) × (after ≡ overlay out (gaveOf (worldOf e) (clock t m write lent) .sent))
   clock-both c records r out after p q s u d = (
     p ∙ ap (λ (y : Called). clockedWith (modemResult .called) e (y .state) records) s
         ∙ ap (clockedWith (modemResult .called) e (headCalled .state)) u ∙ modem-part (isDone (modemResult .called .answer)) clock-count
         ∙ ap (λ x. bothOf modemNumber x (isDone (modemResult .called .answer))) (sym yes′)
         ∙ ap (λ k. bothOf (earliest k modemNumber) (isDone (headCalled .answer)) (isDone (modemResult .called .answer))) (sym (ap answerNumber (is-done (headCalled .answer) yes′))),
     q ∙ ap (overlay out) (clock-wrote ∙ modem-wrote (isDone (modemResult .called .answer)))
-        ∙ ap (λ b. overlay out (clockWrote (b && isDone (modemResult .called .answer)) (worldOf e) t lent)) (sym yes′),
+        ∙ ap (λ b. overlay out (clockWrote (b && isDone (modemResult .called .answer)) (worldOf e) t write lent)) (sym yes′),
   )
     where
       yes′ : isDone (headCalled .answer) ≡ true
@@ -248,27 +249,27 @@ abbrev openedUpAs : ℕ → OpenedCall → Ends → Applied
 openedUpAs n c e =
     record { number = n; key = record { 0 = 0 }; width = c .width; count = c .count; ends = record { head = c .state; records = e .records; modem = e .modem } }
 
-pub open-up-applied : (e : Ends) (direction address said : ℕ) (number : TekNumber) (tek vector lent n : ℕ) (c : OpenedCall)
-    → n ≡ answerNumber (c .answer) → c ≡ openCalled (HeadFrames.openOf (e .head) (e .records) direction address said number tek vector lent)
-    → openedUpAs n c e ≡ appliedOf (worldOf e) (openUp direction address said number tek vector lent)
-open-up-applied e direction address said number tek vector lent n c p q =
+pub open-up-applied : (e : Ends) (direction address said : ℕ) (number : TekNumber) (write : List ℕ) (tek vector lent n : ℕ) (c : OpenedCall)
+    → n ≡ answerNumber (c .answer) → c ≡ openCalled (HeadFrames.openOf (e .head) (e .records) direction address said number write tek vector lent)
+    → openedUpAs n c e ≡ appliedOf (worldOf e) (openUp direction address said number write tek vector lent)
+open-up-applied e direction address said number write tek vector lent n c p q =
     ap (λ k. openedUpAs k c e) p ∙ ap (λ (y : OpenedCall). openedUpAs (answerNumber (y .answer)) y e) q
 
 abbrev openedDownAs : ℕ → ModemOpenedCall → Ends → Applied
 openedDownAs n c e =
     record { number = n; key = record { 0 = 0 }; width = c .width; count = c .count; ends = record { head = e .head; records = e .records; modem = c .modem } }
 
-pub open-down-applied : (e : Ends) (direction address said : ℕ) (number : TekNumber) (tek vector lent n : ℕ) (c : ModemOpenedCall)
-    → n ≡ answerNumber (c .answer) → c ≡ modemOpenCalled (ModemFrames.openOf (e .modem) direction address said number tek vector lent)
-    → openedDownAs n c e ≡ appliedOf (worldOf e) (openDown direction address said number tek vector lent)
-open-down-applied e direction address said number tek vector lent n c p q =
+pub open-down-applied : (e : Ends) (direction address said : ℕ) (number : TekNumber) (write : List ℕ) (tek vector lent n : ℕ) (c : ModemOpenedCall)
+    → n ≡ answerNumber (c .answer) → c ≡ modemOpenCalled (ModemFrames.openOf (e .modem) direction address said number write tek vector lent)
+    → openedDownAs n c e ≡ appliedOf (worldOf e) (openDown direction address said number write tek vector lent)
+open-down-applied e direction address said number write tek vector lent n c p q =
     ap (λ k. openedDownAs k c e) p ∙ ap (λ (y : ModemOpenedCall). openedDownAs (answerNumber (y .answer)) y e) q
 
 -- ---- what is said of a kind is said of a call of that kind
-module _ (e : Ends) (c : Call) (octets key tek vector out : List ℕ) where
+module _ (e : Ends) (c : Call) (octets auth read write tek vector out : List ℕ) where
   abbrev AppliesBy : Kind → Applied → List ℕ → List ℕ → List ℕ → Type 0
   AppliesBy k r tek′ vector′ out′ =
-      Applies (worldOf e) (stepBy k c octets key (length tek) (length vector) (length out)) tek vector out r tek′ vector′ out′
+      Applies (worldOf e) (stepBy k c octets auth read write (length tek) (length vector) (length out)) tek vector out r tek′ vector′ out′
 
   pub applies-as : (k : Kind) (r : Applied) (tek′ vector′ out′ : List ℕ) → c .kind ≡ k → AppliesBy k r tek′ vector′ out′ → AppliesBy (c .kind) r tek′ vector′ out′
   applies-as k r tek′ vector′ out′ h x = subst (λ z. AppliesBy z r tek′ vector′ out′) (sym h) x

@@ -28,17 +28,17 @@ one-frame (Refused r) direction address said x = tt
 
 pub sealed-gave : (w : World) (s : Step) → Each (FrameGave w s) (stepOf w s .given .sealed)
 sealed-gave w (list address allowed l m) = tt
-sealed-gave w (clock t m lent) = tt
+sealed-gave w (clock t m write lent) = tt
 sealed-gave w (established lent) = tt
 sealed-gave w (reauth lent) = tt
-sealed-gave w (up address digest octets key lent) = tt
-sealed-gave w (down digest octets lent) = tt
+sealed-gave w (up address read write octets auth lent) = tt
+sealed-gave w (down read write octets lent) = tt
 sealed-gave w (sealDown address said tek vector) =
     one-frame (HeadFrames.sealOf (w .head) (w .records) address said tek vector .answer) 1 address said (HeadFrames.sealOf (w .head) (w .records) address said tek vector)
 sealed-gave w (sealUp said tek vector) =
     one-frame (ModemFrames.sealOf (w .modem) said tek vector .answer) 0 (w .modem .address) said (ModemFrames.sealOf (w .modem) said tek vector)
-sealed-gave w (openUp direction address said number tek vector lent) = tt
-sealed-gave w (openDown direction address said number tek vector lent) = tt
+sealed-gave w (openUp direction address said number write tek vector lent) = tt
+sealed-gave w (openDown direction address said number write tek vector lent) = tt
 
 -- ---- the opening
 abbrev OpeningGave : World → Step → Opening → Type 0
@@ -46,15 +46,15 @@ OpeningGave w s o = (o .result ≡ stepOf w s .given .number) × (o .out ≡ gav
 
 pub opened-gave : (w : World) (s : Step) → Each (OpeningGave w s) (stepOf w s .given .opened)
 opened-gave w (list address allowed l m) = tt
-opened-gave w (clock t m lent) = tt
+opened-gave w (clock t m write lent) = tt
 opened-gave w (established lent) = tt
 opened-gave w (reauth lent) = tt
-opened-gave w (up address digest octets key lent) = tt
-opened-gave w (down digest octets lent) = tt
+opened-gave w (up address read write octets auth lent) = tt
+opened-gave w (down read write octets lent) = tt
 opened-gave w (sealDown address said tek vector) = tt
 opened-gave w (sealUp said tek vector) = tt
-opened-gave w (openUp direction address said number tek vector lent) = ((refl, refl), tt)
-opened-gave w (openDown direction address said number tek vector lent) = ((refl, refl), tt)
+opened-gave w (openUp direction address said number write tek vector lent) = ((refl, refl), tt)
+opened-gave w (openDown direction address said number write tek vector lent) = ((refl, refl), tt)
 
 -- ---- the message that the head-end puts out for this modem
 one-message : (own : Bool) (octets : List ℕ) → Each (λ (m : List ℕ). m ≡ octets) (oneIf own octets)
@@ -64,14 +64,14 @@ one-message false octets = tt
 
 pub put-gave : (w : World) (s : Step) → Each (λ (m : List ℕ). m ≡ gaveOf w s .sent) (stepOf w s .given .put)
 put-gave w (list address allowed l m) = tt
-put-gave w (clock t m lent) = tt
+put-gave w (clock t m write lent) = tt
 put-gave w (established lent) = tt
 put-gave w (reauth lent) = tt
-put-gave w (up address digest octets key lent) =
-    one-message (eqb address (w .modem .address)) (Head.receiveOctets (w .head) (w .records) address digest octets key lent)
-put-gave w (down digest octets lent) = tt
+put-gave w (up address read write octets auth lent) =
+    one-message (eqb address (w .modem .address)) (Head.receiveOctets (w .head) (w .records) address read write octets auth lent)
+put-gave w (down read write octets lent) = tt
 put-gave w (sealDown address said tek vector) = tt
 put-gave w (sealUp said tek vector) = tt
-put-gave w (openUp direction address said number tek vector lent) =
-    one-message (eqb address (w .modem .address)) (HeadFrames.openOf (w .head) (w .records) direction address said number tek vector lent .invalid)
-put-gave w (openDown direction address said number tek vector lent) = tt
+put-gave w (openUp direction address said number write tek vector lent) =
+    one-message (eqb address (w .modem .address)) (HeadFrames.openOf (w .head) (w .records) direction address said number write tek vector lent .invalid)
+put-gave w (openDown direction address said number write tek vector lent) = tt

@@ -27,16 +27,16 @@ gaveOpened out sent = record { key = record { 0 = 0 }; out = out; sent = sent }
 
 abbrev pub gaveOf : World → Step → Gave
 gaveOf w (list address allowed l m) = gaveSent []
-gaveOf w (clock t m lent) = gaveSent (modemWrote w (clock t m lent))
+gaveOf w (clock t m write lent) = gaveSent (modemWrote w (clock t m write lent))
 gaveOf w (established lent) = gaveSent (modemWrote w (established lent))
 gaveOf w (reauth lent) = gaveSent (modemWrote w (reauth lent))
-gaveOf w (up address digest octets key lent) = gaveSent (Head.receiveOctets (w .head) (w .records) address digest octets key lent)
-gaveOf w (down digest octets lent) = gaveSent (modemWrote w (down digest octets lent))
+gaveOf w (up address read write octets auth lent) = gaveSent (Head.receiveOctets (w .head) (w .records) address read write octets auth lent)
+gaveOf w (down read write octets lent) = gaveSent (modemWrote w (down read write octets lent))
 gaveOf w (sealDown address said tek vector) = gaveSealed (HeadFrames.sealOf (w .head) (w .records) address said tek vector)
 gaveOf w (sealUp said tek vector) = gaveSealed (ModemFrames.sealOf (w .modem) said tek vector)
-gaveOf w (openUp direction address said number tek vector lent) =
-    gaveOpened (HeadFrames.openOf (w .head) (w .records) direction address said number tek vector lent .out)
-    (HeadFrames.openOf (w .head) (w .records) direction address said number tek vector lent .invalid)
-gaveOf w (openDown direction address said number tek vector lent) =
-    gaveOpened (ModemFrames.openOf (w .modem) direction address said number tek vector lent .out)
-    (modemWrote w (openDown direction address said number tek vector lent))
+gaveOf w (openUp direction address said number write tek vector lent) =
+    gaveOpened (HeadFrames.openOf (w .head) (w .records) direction address said number write tek vector lent .out)
+    (HeadFrames.openOf (w .head) (w .records) direction address said number write tek vector lent .invalid)
+gaveOf w (openDown direction address said number write tek vector lent) =
+    gaveOpened (ModemFrames.openOf (w .modem) direction address said number write tek vector lent .out)
+    (modemWrote w (openDown direction address said number write tek vector lent))

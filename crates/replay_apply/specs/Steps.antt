@@ -1,8 +1,7 @@
--- Which step of demand 3's a call is (demand_plant/specs/World.antt): its numbers, the octets and the key lent with it, and the lengths of the slices lent
--- for TEK, vector and messages.
+-- Which step of demand 3's a call is (demand_plant/specs/World.antt): its numbers, the octets, the AUTH-Key and the message keys lent with it, and
+-- the lengths of the slices lent for TEK, vector and messages.
 use mathlib.Core.List.{List}
 use Prim.Native.Nat.{ℕ}
-use lib.Dec.{eqb}
 use Rattle.replay_read.specs.declared.calls.Kind.{Kind}
 use Rattle.replay_read.specs.declared.calls.Kind.the-variants.{List as KindList, Clock, Established, Reauth, Up, Down, SealDown, SealUp, OpenUp, OpenDown}
 use Rattle.replay_read.specs.declared.calls.Call.{Call}
@@ -16,17 +15,17 @@ worldOf e = record { head = e .head; records = e .records; modem = e .modem }
 abbrev pub endsOf : World → Ends
 endsOf w = record { head = w .head; records = w .records; modem = w .modem }
 
-abbrev pub stepBy : Kind → Call → List ℕ → List ℕ → ℕ → ℕ → ℕ → Step
-stepBy KindList c octets key tek vector out = list (c .address) (c .word) (c .listing) octets
-stepBy Clock c octets key tek vector out = clock (c .second) octets out
-stepBy Established c octets key tek vector out = established out
-stepBy Reauth c octets key tek vector out = reauth out
-stepBy Up c octets key tek vector out = up (c .address) (eqb (c .word) 1) octets key out
-stepBy Down c octets key tek vector out = down (eqb (c .word) 1) octets out
-stepBy SealDown c octets key tek vector out = sealDown (c .address) (c .said) tek vector
-stepBy SealUp c octets key tek vector out = sealUp (c .said) tek vector
-stepBy OpenUp c octets key tek vector out = openUp (c .word) (c .address) (c .said) (c .number) tek vector out
-stepBy OpenDown c octets key tek vector out = openDown (c .word) (c .address) (c .said) (c .number) tek vector out
+abbrev pub stepBy : Kind → Call → List ℕ → List ℕ → List ℕ → List ℕ → ℕ → ℕ → ℕ → Step
+stepBy KindList c octets auth read write tek vector out = list (c .address) (c .word) (c .listing) octets
+stepBy Clock c octets auth read write tek vector out = clock (c .second) octets write out
+stepBy Established c octets auth read write tek vector out = established out
+stepBy Reauth c octets auth read write tek vector out = reauth out
+stepBy Up c octets auth read write tek vector out = up (c .address) read write octets auth out
+stepBy Down c octets auth read write tek vector out = down read write octets out
+stepBy SealDown c octets auth read write tek vector out = sealDown (c .address) (c .said) tek vector
+stepBy SealUp c octets auth read write tek vector out = sealUp (c .said) tek vector
+stepBy OpenUp c octets auth read write tek vector out = openUp (c .word) (c .address) (c .said) (c .number) write tek vector out
+stepBy OpenDown c octets auth read write tek vector out = openDown (c .word) (c .address) (c .said) (c .number) write tek vector out
 
-abbrev pub stepFor : Call → List ℕ → List ℕ → ℕ → ℕ → ℕ → Step
-stepFor c octets key tek vector out = stepBy (c .kind) c octets key tek vector out
+abbrev pub stepFor : Call → List ℕ → List ℕ → List ℕ → List ℕ → ℕ → ℕ → ℕ → Step
+stepFor c octets auth read write tek vector out = stepBy (c .kind) c octets auth read write tek vector out

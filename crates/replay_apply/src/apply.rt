@@ -19,30 +19,33 @@ use replay_read::calls::Call;
 use replay_read::calls::Kind;
 
 // The ends after the call, document 01's number, and what it gives: the octets of a key at the front of `tek` and `vector`, messages at the
-// front of `out`. `octets` is the material of a listing or a clock call, or a message; `key` the AUTH-Key of a message to the head-end.
+// front of `out`. `octets` is the material of a listing or a clock call, or a message; `auth` the AUTH-Key of a message to the head-end; `read` and
+// `write` are the message keys of what is read and of what is written.
 pub fn apply(
     e: Ends,
     c: Call,
     octets: &[u8],
-    key: &[u8],
+    auth: &[u8],
+    read: &[u8],
+    write: &[u8],
     tek: &mut [u8],
     vector: &mut [u8],
     out: &mut [u8],
 ) -> Applied
-    ensures { λ r. ⌜ Applies (worldOf e) (stepFor c (now (octets .entry)) (now (key .entry)) (length (now (tek .entry))) (length (now (vector .entry))) (length (now (out .entry))))
+    ensures { λ r. ⌜ Applies (worldOf e) (stepFor c (now (octets .entry)) (now (auth .entry)) (now (read .entry)) (now (write .entry)) (length (now (tek .entry))) (length (now (vector .entry))) (length (now (out .entry))))
         (now (tek .entry)) (now (vector .entry)) (now (out .entry)) r (now (tek .exit)) (now (vector .exit)) (now (out .exit)) ⌝ }
 {
     let kind = c.kind;
     match kind {
         Kind::List => apply_list(e, c, octets),
-        Kind::Clock => apply_clock(e, c, octets, out),
+        Kind::Clock => apply_clock(e, c, octets, write, out),
         Kind::Established => apply_established(e, out),
         Kind::Reauth => apply_reauth(e, out),
-        Kind::Up => apply_up(e, c, octets, key, out),
-        Kind::Down => apply_down(e, c, octets, out),
+        Kind::Up => apply_up(e, c, octets, auth, read, write, out),
+        Kind::Down => apply_down(e, octets, read, write, out),
         Kind::SealDown => apply_seal_down(e, c, tek, vector),
         Kind::SealUp => apply_seal_up(e, c, tek, vector),
-        Kind::OpenUp => apply_open_up(e, c, tek, vector, out),
-        Kind::OpenDown => apply_open_down(e, c, tek, vector, out),
+        Kind::OpenUp => apply_open_up(e, c, write, tek, vector, out),
+        Kind::OpenDown => apply_open_down(e, c, write, tek, vector, out),
     }
 }

@@ -16,8 +16,8 @@ use questions::refusal::is_done;
 use replay_read::calls::Call;
 
 // The clock goes to the second at both ends, or at neither; where both refuse, the number is the earlier question's.
-pub fn apply_clock(e: Ends, c: Call, octets: &[u8], out: &mut [u8]) -> Applied
-    ensures { λ r. ⌜ AppliesSent (worldOf e) (clock (c .second) (now (octets .entry)) (length (now (out .entry))))
+pub fn apply_clock(e: Ends, c: Call, octets: &[u8], write: &[u8], out: &mut [u8]) -> Applied
+    ensures { λ r. ⌜ AppliesSent (worldOf e) (clock (c .second) (now (octets .entry)) (now (write .entry)) (length (now (out .entry))))
         (now (out .entry)) r (now (out .exit)) ⌝ }
 {
     let head = e.head;
@@ -27,11 +27,11 @@ pub fn apply_clock(e: Ends, c: Call, octets: &[u8], out: &mut [u8]) -> Applied
     let a = called.answer;
     if !is_done(a) {
         let m = e.modem;
-        let b = clock_answer(m, c.second, out.len());
+        let b = clock_answer(m, c.second, write, out.len());
         let number = earlier_number(answer_number(a), answer_number(b));
         return refused(number, e);
     }
     let state = called.state;
     let after = r.records;
-    clock_modem(e, state, after, c.second, out)
+    clock_modem(e, state, after, c.second, write, out)
 }

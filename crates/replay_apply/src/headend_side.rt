@@ -1,6 +1,5 @@
 // The calls that reach the head-end alone, applied to both ends.
 ghost use mathlib.Core.Path.{_≡_};
-ghost use lib.Dec.{eqb};
 ghost use lib.ListN.{length};
 ghost use Rattle.questions.specs.Refusal.{answerNumber};
 ghost use Rattle.demand_plant.specs.World.{list, up, sealDown, openUp};
@@ -20,7 +19,6 @@ use modem_steps::state::Modem;
 use questions::limits::RECORDS_MAX;
 use questions::refusal::answer_number;
 use replay_read::calls::Call;
-use replay_read::calls::DIGEST_HOLDS;
 
 // What a call of the head-end gives, with the modem as it was.
 fn of_head(c: Called, records: [Assoc; RECORDS_MAX], modem: Modem) -> Applied
@@ -47,22 +45,22 @@ pub fn apply_list(e: Ends, c: Call, octets: &[u8]) -> Applied
 }
 
 // A message to the head-end.
-pub fn apply_up(e: Ends, c: Call, octets: &[u8], key: &[u8], out: &mut [u8]) -> Applied
-    ensures { λ r. ⌜ AppliesSent (worldOf e) (up (c .address) (eqb (c .word) 1) (now (octets .entry)) (now (key .entry)) (length (now (out .entry))))
+pub fn apply_up(
+    e: Ends,
+    c: Call,
+    octets: &[u8],
+    auth: &[u8],
+    read: &[u8],
+    write: &[u8],
+    out: &mut [u8],
+) -> Applied
+    ensures { λ r. ⌜ AppliesSent (worldOf e) (up (c .address) (now (read .entry)) (now (write .entry)) (now (octets .entry)) (now (auth .entry)) (length (now (out .entry))))
         (now (out .entry)) r (now (out .exit)) ⌝ }
 {
     let head = e.head;
     let records = e.records;
     let modem = e.modem;
-    let r = receive_held(
-        head,
-        records,
-        c.address,
-        c.word == DIGEST_HOLDS,
-        octets,
-        key,
-        out,
-    );
+    let r = receive_held(head, records, c.address, read, write, octets, auth, out);
     of_head(r, records, modem)
 }
 
@@ -87,8 +85,15 @@ pub fn apply_seal_down(e: Ends, c: Call, tek: &mut [u8], vector: &mut [u8]) -> A
 }
 
 // A frame that reaches the head-end.
-pub fn apply_open_up(e: Ends, c: Call, tek: &mut [u8], vector: &mut [u8], out: &mut [u8]) -> Applied
-    ensures { λ r. ⌜ Applies (worldOf e) (openUp (c .word) (c .address) (c .said) (c .number) (length (now (tek .entry))) (length (now (vector .entry))) (length (now (out .entry))))
+pub fn apply_open_up(
+    e: Ends,
+    c: Call,
+    write: &[u8],
+    tek: &mut [u8],
+    vector: &mut [u8],
+    out: &mut [u8],
+) -> Applied
+    ensures { λ r. ⌜ Applies (worldOf e) (openUp (c .word) (c .address) (c .said) (c .number) (now (write .entry)) (length (now (tek .entry))) (length (now (vector .entry))) (length (now (out .entry))))
         (now (tek .entry)) (now (vector .entry)) (now (out .entry)) r (now (tek .exit)) (now (vector .exit)) (now (out .exit)) ⌝ }
 {
     let head = e.head;
@@ -102,6 +107,7 @@ pub fn apply_open_up(e: Ends, c: Call, tek: &mut [u8], vector: &mut [u8], out: &
         c.address,
         c.said,
         n,
+        write,
         tek,
         vector,
         out,

@@ -64,14 +64,15 @@ pub fn receive_held(
     h: HeadEnd,
     records: [Assoc; RECORDS_MAX],
     address: u64,
-    digest: bool,
+    read: &[u8],
+    write: &[u8],
     message: &[u8],
-    key: &[u8],
+    auth: &[u8],
     out: &mut [u8],
 ) -> Called
-    ensures { λ r. ⌜ Receives h records address digest (now (message .entry)) (now (key .entry)) (now (out .entry)) r (now (out .exit)) ⌝ }
+    ensures { λ r. ⌜ Receives h records address (now (read .entry)) (now (write .entry)) (now (message .entry)) (now (auth .entry)) (now (out .entry)) r (now (out .exit)) ⌝ }
 {
-    receive(h, &records, address, digest, message, key, out)
+    receive(h, &records, address, read, write, message, auth, out)
 }
 
 // A frame to a modem.
@@ -97,11 +98,12 @@ pub fn open_held(
     address: u64,
     said: u16,
     number: TekNumber,
+    write: &[u8],
     tek: &mut [u8],
     vector: &mut [u8],
     invalid: &mut [u8],
 ) -> OpenedCall
-    ensures { λ r. ⌜ OpenGives (openOf h records direction address said number (length (now (tek .entry))) (length (now (vector .entry))) (length (now (invalid .entry))))
+    ensures { λ r. ⌜ OpenGives (openOf h records direction address said number (now (write .entry)) (length (now (tek .entry))) (length (now (vector .entry))) (length (now (invalid .entry))))
         (now (tek .entry)) (now (vector .entry)) (now (invalid .entry)) r (now (tek .exit)) (now (vector .exit)) (now (invalid .exit)) ⌝ }
 {
     open(
@@ -111,6 +113,7 @@ pub fn open_held(
         address,
         said,
         number,
+        write,
         tek,
         vector,
         invalid,

@@ -1,6 +1,5 @@
 // The modem's calls, applied to both ends.
 ghost use mathlib.Core.Path.{_≡_};
-ghost use lib.Dec.{eqb};
 ghost use lib.ListN.{length};
 ghost use Rattle.key_traffic.specs.Octets.{overlay};
 ghost use Rattle.questions.specs.Refusal.{answerNumber, isDone};
@@ -26,7 +25,6 @@ use questions::limits::RECORDS_MAX;
 use questions::refusal::answer_number;
 use questions::refusal::is_done;
 use replay_read::calls::Call;
-use replay_read::calls::DIGEST_HOLDS;
 
 // What a call of the modem gives, with the head-end and its records.
 fn of_modem(c: Called, head: HeadEnd, records: [Assoc; RECORDS_MAX]) -> Applied
@@ -44,13 +42,14 @@ pub fn clock_modem(
     head: HeadEnd,
     records: [Assoc; RECORDS_MAX],
     t: u64,
+    write: &[u8],
     out: &mut [u8],
 ) -> Applied
-    ensures { λ r. ⌜ (r ≡ clockedOf (isDone (clockOf (e .modem) t (length (now (out .entry))) .called .answer)) (clockOf (e .modem) t (length (now (out .entry))) .called) e head records)
-        × (now (out .exit) ≡ overlay (now (out .entry)) (clockOf (e .modem) t (length (now (out .entry))) .written)) ⌝ }
+    ensures { λ r. ⌜ (r ≡ clockedOf (isDone (clockOf (e .modem) t (now (write .entry)) (length (now (out .entry))) .called .answer)) (clockOf (e .modem) t (now (write .entry)) (length (now (out .entry))) .called) e head records)
+        × (now (out .exit) ≡ overlay (now (out .entry)) (clockOf (e .modem) t (now (write .entry)) (length (now (out .entry))) .written)) ⌝ }
 {
     let m = e.modem;
-    let c = clock(m, t, out);
+    let c = clock(m, t, write, out);
     let a = c.answer;
     if !is_done(a) {
         let number = answer_number(a);
@@ -84,14 +83,14 @@ pub fn apply_reauth(e: Ends, out: &mut [u8]) -> Applied
 }
 
 // A message to the modem.
-pub fn apply_down(e: Ends, c: Call, octets: &[u8], out: &mut [u8]) -> Applied
-    ensures { λ r. ⌜ AppliesSent (worldOf e) (World.down (eqb (c .word) 1) (now (octets .entry)) (length (now (out .entry))))
+pub fn apply_down(e: Ends, octets: &[u8], read: &[u8], write: &[u8], out: &mut [u8]) -> Applied
+    ensures { λ r. ⌜ AppliesSent (worldOf e) (World.down (now (read .entry)) (now (write .entry)) (now (octets .entry)) (length (now (out .entry))))
         (now (out .entry)) r (now (out .exit)) ⌝ }
 {
     let head = e.head;
     let records = e.records;
     let m = e.modem;
-    let r = receive(m, octets, c.word == DIGEST_HOLDS, out);
+    let r = receive(m, octets, read, write, out);
     of_modem(r, head, records)
 }
 
@@ -118,18 +117,19 @@ pub fn apply_seal_up(e: Ends, c: Call, tek: &mut [u8], vector: &mut [u8]) -> App
 pub fn apply_open_down(
     e: Ends,
     c: Call,
+    write: &[u8],
     tek: &mut [u8],
     vector: &mut [u8],
     out: &mut [u8],
 ) -> Applied
-    ensures { λ r. ⌜ Applies (worldOf e) (World.openDown (c .word) (c .address) (c .said) (c .number) (length (now (tek .entry))) (length (now (vector .entry))) (length (now (out .entry))))
+    ensures { λ r. ⌜ Applies (worldOf e) (World.openDown (c .word) (c .address) (c .said) (c .number) (now (write .entry)) (length (now (tek .entry))) (length (now (vector .entry))) (length (now (out .entry))))
         (now (tek .entry)) (now (vector .entry)) (now (out .entry)) r (now (tek .exit)) (now (vector .exit)) (now (out .exit)) ⌝ }
 {
     let head = e.head;
     let records = e.records;
     let m = e.modem;
     let n = c.number;
-    let r = open(m, c.word, c.address, c.said, n, tek, vector, out);
+    let r = open(m, c.word, c.address, c.said, n, write, tek, vector, out);
     let a = r.answer;
     let after = r.modem;
     let number = answer_number(a);

@@ -204,6 +204,7 @@ cut-holds l =
       second-is = nth-holds l 2 _ r₂;
       third-is = nth-holds l 3 _ r₃;
       fourth-is = nth-holds l 4 _ r₄;
+      fifth-is = nth-holds l 5 _ (nth-rest l 4 _ r₄);
       rest-is = r₄;
     }
 

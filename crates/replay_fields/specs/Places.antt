@@ -50,6 +50,7 @@ cutsOf l =
       second = afterField l (afterField l (fieldAt l 0));
       third = afterField l (afterField l (afterField l (fieldAt l 0)));
       fourth = afterField l (afterField l (afterField l (afterField l (fieldAt l 0))));
+      fifth = afterField l (afterField l (afterField l (afterField l (afterField l (fieldAt l 0)))));
     }
 
 -- A place holds a field of the line
@@ -65,6 +66,7 @@ pub record Cut (l : List ℕ) (c : Cuts) : Type 0 where
   pub second-is : Holds l (c .second) (field (fieldsOf l) 2)
   pub third-is : Holds l (c .third) (field (fieldsOf l) 3)
   pub fourth-is : Holds l (c .fourth) (field (fieldsOf l) 4)
+  pub fifth-is : Holds l (c .fifth) (field (fieldsOf l) 5)
   pub rest-is : fieldsFrom l (c .third .end + 1) ≡ drop 4 (fieldsOf l)
 
 -- ---- what they say

@@ -30,7 +30,7 @@ pub struct Num {
     pub value: u64,
 }
 
-// How many fields a line has, and where its first five stand.
+// How many fields a line has, and where its first six stand.
 pub struct Cuts {
     pub count: usize,
     pub name: Field,
@@ -38,6 +38,7 @@ pub struct Cuts {
     pub second: Field,
     pub third: Field,
     pub fourth: Field,
+    pub fifth: Field,
 }
 
 // The field that starts at a place. Past the line's end it is empty.
@@ -84,6 +85,7 @@ pub fn cut_line(line: &[u8]) -> Cuts
     let second = field_at(line, first.end + 1);
     let third = field_at(line, second.end + 1);
     let fourth = field_at(line, third.end + 1);
+    let fifth = field_at(line, fourth.end + 1);
     Cuts {
         count: count,
         name: name,
@@ -91,6 +93,7 @@ pub fn cut_line(line: &[u8]) -> Cuts
         second: second,
         third: third,
         fourth: fourth,
+        fifth: fifth,
     }
 }
 

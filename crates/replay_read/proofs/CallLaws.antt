@@ -18,9 +18,9 @@ use Rattle.replay_read.specs.declared.call.ReadCall.{ReadCall}
 use Rattle.replay_read.specs.declared.name.Named.{Named}
 use Rattle.replay_fields.specs.Fields.{fieldsOf, field, isLine}
 use Rattle.text.specs.Hex.{octetsOf}
-use Rattle.replay_read.specs.Call.{LineCall, when, tellOf, tellBy, kindNamed, callOf}
+use Rattle.replay_read.specs.Call.{LineCall, keyless, when, tellOf, tellBy, kindNamed, callOf}
 use Rattle.replay_fields.specs.Places.{Holds, Cut, textOf, octetsFor}
-use Rattle.replay_read.specs.CallPlaces.{namedFor, noPlace, noCall, keptOf}
+use Rattle.replay_read.specs.CallPlaces.{namedFor, noPlace, noRead, keptOf, aloneOf}
 use Rattle.replay_read.specs.Reads.{At, Reads}
 use Rattle.replay_fields.proofs.SaidLaws.{text-length}
 use Rattle.text.proofs.HexLaws.{octets-even}
@@ -47,20 +47,30 @@ place-says l f o t h e =
           ∙ ap octetsOf (h .text);
     })
 
--- what was read, where it is a call
-pub kept-reads : (l : List ℕ) (t u : Bool) (said : LineCall) (call : Call) (o k : Place) (r : ReadCall) → r ≡ keptOf t call o k → t ≡ u
-    → (u ≡ true → call ≡ said .call) → At l o (said .octets) → At l k (said .key) → Reads l (when u said) r
-kept-reads l t u said call o k r e q c a b =
-    subst (λ (x : ReadCall). Reads l (when u said) x) (sym (e ∙ ap (λ (x : Bool). keptOf x call o k) q)) (go u c)
-  where
-    go : (x : Bool) → (x ≡ true → call ≡ said .call) → Reads l (when x said) (keptOf x call o k)
-    go true same = record { call-there = refl; call-is = same refl; octets-at = a; key-at = b }
-    go false same = record { call-there = refl; call-is = refl; octets-at = nowhere l noPlace refl; key-at = nowhere l noPlace refl }
-
-pub none-reads : (l : List ℕ) (call : Call) (o k : Place) (r : ReadCall) → r ≡ keptOf false call o k → Reads l none r
-none-reads l call o k r e =
+pub none-reads : (l : List ℕ) (r : ReadCall) → r ≡ noRead → Reads l none r
+none-reads l r e =
+    let n = nowhere l noPlace refl in
     subst (Reads l none) (sym e)
-    (record { call-there = refl; call-is = refl; octets-at = nowhere l noPlace refl; key-at = nowhere l noPlace refl })
+    (record { call-there = refl; call-is = refl; octets-at = n; auth-at = n; read-at = n; write-at = n })
+
+-- what was read, where it is a call
+pub kept-reads : (l : List ℕ) (t u : Bool) (said : LineCall) (call : Call) (o a d w : Place) (r : ReadCall) → r ≡ keptOf t call o a d w → t ≡ u
+    → (u ≡ true → call ≡ said .call)
+    → At l o (said .octets) → At l a (said .auth) → At l d (said .read) → At l w (said .write)
+    → Reads l (when u said) r
+kept-reads l t u said call o a d w r e q c at-o at-a at-d at-w =
+    subst (λ (x : ReadCall). Reads l (when u said) x) (sym (e ∙ ap (λ (x : Bool). keptOf x call o a d w) q)) (go u c)
+  where
+    go : (x : Bool) → (x ≡ true → call ≡ said .call) → Reads l (when x said) (keptOf x call o a d w)
+    go true same =
+        record { call-there = refl; call-is = same refl; octets-at = at-o; auth-at = at-a; read-at = at-d; write-at = at-w }
+    go false same = none-reads l noRead refl
+
+-- where it brings numbers alone
+pub alone-reads : (l : List ℕ) (t u : Bool) (said call : Call) (r : ReadCall) → r ≡ aloneOf t call → t ≡ u → call ≡ said → Reads l (when u (keyless said [])) r
+alone-reads l t u said call r e q c =
+    let n = nowhere l noPlace refl in
+    kept-reads l t u (keyless said []) call noPlace noPlace noPlace noPlace r e q (λ yes. c) n n n n
 
 -- ---- the line
 
@@ -68,10 +78,10 @@ pub kind-reads : (l : List ℕ) (k j : Kind) (r : ReadCall) → k ≡ j → Read
 kind-reads l k j r e h = subst (λ (i : Kind). Reads l (tellOf i (fieldsOf l)) r) (sym e) h
 
 module _ (l : List ℕ) where
-  call-none : (r : ReadCall) → callOf l ≡ none → r ≡ keptOf false noCall noPlace noPlace → Reads l (callOf l) r
-  call-none r e q = subst (λ (o : Option LineCall). Reads l o r) (sym e) (none-reads l noCall noPlace noPlace r q)
+  call-none : (r : ReadCall) → callOf l ≡ none → r ≡ noRead → Reads l (callOf l) r
+  call-none r e q = subst (λ (o : Option LineCall). Reads l o r) (sym e) (none-reads l r q)
 
-  pub long-reads : (r : ReadCall) → 16384 < length l → r ≡ keptOf false noCall noPlace noPlace → Reads l (callOf l) r
+  pub long-reads : (r : ReadCall) → 16384 < length l → r ≡ noRead → Reads l (callOf l) r
   unfolding callOf isLine
   long-reads r h q = call-none r (simp (lt-leb (length l) 16384 h)) q
 
@@ -83,7 +93,7 @@ module _ (l : List ℕ) where
     unfolding callOf isLine
     called = simp (le-leb (length l) 16384 short)
 
-    pub other-reads : (r : ReadCall) → k .«is_known» ≡ false → r ≡ keptOf false noCall noPlace noPlace → Reads l (callOf l) r
+    pub other-reads : (r : ReadCall) → k .«is_known» ≡ false → r ≡ noRead → Reads l (callOf l) r
     other-reads r f q = call-none r (called ∙ go (kindNamed (field (fieldsOf l) 0)) known-as) q
       where
         go : (o : Option Kind) → k ≡ namedFor o → tellBy o (fieldsOf l) ≡ none

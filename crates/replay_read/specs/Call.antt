@@ -14,11 +14,17 @@ use Rattle.replay_fields.specs.Fields.{fieldsOf, field, isLine, isNumber, numbe
 use Rattle.text.specs.Hex.{isOctets, octetsOf}
 use Rattle.replay_fields.specs.Listing.{wordIn, isPairs, listingIn}
 
--- A call, with the octets and the key that it brings
+-- A call, with the octets that it brings: a message or material, the AUTH-Key, and the message keys for what is read and for what is written
 pub record LineCall : Type 0 where
   pub call : Call
   pub octets : List ℕ
-  pub key : List ℕ
+  pub auth : List ℕ
+  pub read : List ℕ
+  pub write : List ℕ
+
+-- One that brings no keys
+abbrev pub keyless : Call → List ℕ → LineCall
+keyless call octets = record { call = call; octets = octets; auth = []; read = []; write = [] }
 
 -- A call, by whether the line is in its form
 abbrev pub when : Bool → LineCall → Option LineCall
@@ -38,64 +44,78 @@ unfoldable pub tellList : List (List ℕ) → Option LineCall
 tellList fs =
     when
     (leb 6 (length fs) && isNumber (field fs 1) && isFlag (field fs 2) && isOctets (field fs 3) && isPairs (drop 4 fs))
-    (record {
-      call = callWith kind.List (numberIn (field fs 1)) (octetIn (field fs 2)) 0 0 0 (listingIn (drop 4 fs));
-      octets = octetsOf (field fs 3);
-      key = [];
-    })
+    (keyless
+    (callWith kind.List (numberIn (field fs 1)) (octetIn (field fs 2)) 0 0 0 (listingIn (drop 4 fs)))
+    (octetsOf (field fs 3)))
 
--- clock,SECOND,MATERIAL
+-- clock,SECOND,MATERIAL,WRITEKEY
 unfoldable pub tellClock : List (List ℕ) → Option LineCall
 tellClock fs =
     when
-    (eqb (length fs) 3 && isNumber (field fs 1) && isOctets (field fs 2))
-    (record { call = plain kind.Clock 0 0 (numberIn (field fs 1)) 0 0; octets = octetsOf (field fs 2); key = [] })
+    (eqb (length fs) 4 && isNumber (field fs 1) && isOctets (field fs 2) && isOctets (field fs 3))
+    (record {
+      call = plain kind.Clock 0 0 (numberIn (field fs 1)) 0 0;
+      octets = octetsOf (field fs 2);
+      auth = [];
+      read = [];
+      write = octetsOf (field fs 3);
+    })
 
 -- established and reauth: the name alone
 unfoldable pub tellBare : Kind → List (List ℕ) → Option LineCall
-tellBare k fs = when (eqb (length fs) 1) (record { call = plain k 0 0 0 0 0; octets = []; key = [] })
+tellBare k fs = when (eqb (length fs) 1) (keyless (plain k 0 0 0 0 0) [])
 
--- up,ADDRESS,DIGEST,AUTHKEY,OCTETS
+-- up,ADDRESS,READKEY,WRITEKEY,AUTHKEY,OCTETS
 unfoldable pub tellUp : List (List ℕ) → Option LineCall
 tellUp fs =
     when
-    (eqb (length fs) 5 && isNumber (field fs 1) && isFlag (field fs 2) && isOctets (field fs 3) && isOctets (field fs 4))
+    (eqb (length fs) 6 && isNumber (field fs 1) && isOctets (field fs 2) && isOctets (field fs 3) && isOctets (field fs 4) && isOctets (field fs 5))
     (record {
-      call = plain kind.Up (numberIn (field fs 1)) (octetIn (field fs 2)) 0 0 0;
-      octets = octetsOf (field fs 4);
-      key = octetsOf (field fs 3);
+      call = plain kind.Up (numberIn (field fs 1)) 0 0 0 0;
+      octets = octetsOf (field fs 5);
+      auth = octetsOf (field fs 4);
+      read = octetsOf (field fs 2);
+      write = octetsOf (field fs 3);
     })
 
--- down,DIGEST,OCTETS
+-- down,READKEY,WRITEKEY,OCTETS
 unfoldable pub tellDown : List (List ℕ) → Option LineCall
 tellDown fs =
     when
-    (eqb (length fs) 3 && isFlag (field fs 1) && isOctets (field fs 2))
-    (record { call = plain kind.Down 0 (octetIn (field fs 1)) 0 0 0; octets = octetsOf (field fs 2); key = [] })
+    (eqb (length fs) 4 && isOctets (field fs 1) && isOctets (field fs 2) && isOctets (field fs 3))
+    (record {
+      call = plain kind.Down 0 0 0 0 0;
+      octets = octetsOf (field fs 3);
+      auth = [];
+      read = octetsOf (field fs 1);
+      write = octetsOf (field fs 2);
+    })
 
 -- sealdown,ADDRESS,SAID
 unfoldable pub tellSealDown : List (List ℕ) → Option LineCall
 tellSealDown fs =
     when
     (eqb (length fs) 3 && isNumber (field fs 1) && isNumber (field fs 2))
-    (record { call = plain kind.SealDown (numberIn (field fs 1)) 0 0 (wordIn (field fs 2)) 0; octets = []; key = [] })
+    (keyless (plain kind.SealDown (numberIn (field fs 1)) 0 0 (wordIn (field fs 2)) 0) [])
 
 -- sealup,SAID
 unfoldable pub tellSealUp : List (List ℕ) → Option LineCall
 tellSealUp fs =
     when
     (eqb (length fs) 2 && isNumber (field fs 1))
-    (record { call = plain kind.SealUp 0 0 0 (wordIn (field fs 1)) 0; octets = []; key = [] })
+    (keyless (plain kind.SealUp 0 0 0 (wordIn (field fs 1)) 0) [])
 
--- openup and opendown, DIRECTION,ADDRESS,SAID,NUMBER
+-- openup and opendown, DIRECTION,ADDRESS,SAID,NUMBER,WRITEKEY
 unfoldable pub tellOpen : Kind → List (List ℕ) → Option LineCall
 tellOpen k fs =
     when
-    (eqb (length fs) 5 && isNumber (field fs 1) && isNumber (field fs 2) && isNumber (field fs 3) && isNumber (field fs 4))
+    (eqb (length fs) 6 && isNumber (field fs 1) && isNumber (field fs 2) && isNumber (field fs 3) && isNumber (field fs 4) && isOctets (field fs 5))
     (record {
       call = plain k (numberIn (field fs 2)) (octetIn (field fs 1)) 0 (wordIn (field fs 3)) (octetIn (field fs 4));
       octets = [];
-      key = [];
+      auth = [];
+      read = [];
+      write = octetsOf (field fs 5);
     })
 
 -- By its kind

@@ -20,6 +20,14 @@ noPlace = record { at = 0; count = 0 }
 abbrev pub noCall : Call
 noCall = plain kind.Established 0 0 0 0 0
 
-abbrev pub keptOf : Bool → Call → Place → Place → ReadCall
-keptOf true call octets key = record { «is_call» = true; call = call; octets = octets; key = key }
-keptOf false call octets key = record { «is_call» = false; call = noCall; octets = noPlace; key = noPlace }
+abbrev pub noRead : ReadCall
+noRead = record { «is_call» = false; call = noCall; octets = noPlace; auth = noPlace; read = noPlace; write = noPlace }
+
+-- What is kept of a line, by whether it is a call: where its octets, its AUTH-Key and its two message keys stand
+abbrev pub keptOf : Bool → Call → Place → Place → Place → Place → ReadCall
+keptOf true call octets auth read write =
+    record { «is_call» = true; call = call; octets = octets; auth = auth; read = read; write = write }
+keptOf false call octets auth read write = noRead
+
+abbrev pub aloneOf : Bool → Call → ReadCall
+aloneOf on call = keptOf on call noPlace noPlace noPlace noPlace

@@ -24,18 +24,28 @@ abbrev pub octetsIn : Option LineCall → List ℕ
 octetsIn none = []
 octetsIn (some t) = t .octets
 
-abbrev pub keyIn : Option LineCall → List ℕ
-keyIn none = []
-keyIn (some t) = t .key
+abbrev pub authIn : Option LineCall → List ℕ
+authIn none = []
+authIn (some t) = t .auth
+
+abbrev pub readIn : Option LineCall → List ℕ
+readIn none = []
+readIn (some t) = t .read
+
+abbrev pub writeIn : Option LineCall → List ℕ
+writeIn none = []
+writeIn (some t) = t .write
 
 -- The digits at a place of the line say these octets
 pub record At (l : List ℕ) (p : Place) (octets : List ℕ) : Type 0 where
   pub within : p .at + 2 * p .count ≤ length l
   pub says : octetsOf (take (2 * p .count) (drop (p .at) l)) ≡ octets
 
--- Whether there is a call and which, and where its octets and its key stand
+-- Whether there is a call and which, and where its octets and its keys stand
 pub record Reads (l : List ℕ) (o : Option LineCall) (r : ReadCall) : Type 0 where
   pub call-there : r .«is_call» ≡ isLineCall o
   pub call-is : r .call ≡ callIn o
   pub octets-at : At l (r .octets) (octetsIn o)
-  pub key-at : At l (r .key) (keyIn o)
+  pub auth-at : At l (r .auth) (authIn o)
+  pub read-at : At l (r .read) (readIn o)
+  pub write-at : At l (r .write) (writeIn o)

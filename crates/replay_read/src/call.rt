@@ -6,7 +6,7 @@ ghost use lib.ListN.{length};
 ghost use Rattle.replay_fields.specs.Fields.{fieldsOf};
 ghost use Rattle.replay_read.specs.Call.{callOf, tellOf, tellList, tellClock, tellBare, tellUp, tellDown, tellSealDown, tellSealUp, tellOpen};
 ghost use Rattle.replay_fields.specs.Places.{Cut};
-ghost use Rattle.replay_read.specs.CallPlaces.{noPlace, noCall, keptOf};
+ghost use Rattle.replay_read.specs.CallPlaces.{noPlace, noRead, keptOf, aloneOf};
 ghost use Rattle.replay_read.specs.Reads.{Reads};
 use crate::calls::Call;
 use crate::calls::Kind;
@@ -27,26 +27,29 @@ use replay_fields::octets::octets_of;
 // Fields of a line of each kind, its name among them; a listing has this many or more.
 const LIST_FIELDS_MIN: usize = 6;
 
-const CLOCK_FIELDS: usize = 3;
+const CLOCK_FIELDS: usize = 4;
 
 const BARE_FIELDS: usize = 1;
 
-const UP_FIELDS: usize = 5;
+const UP_FIELDS: usize = 6;
 
-const DOWN_FIELDS: usize = 3;
+const DOWN_FIELDS: usize = 4;
 
 const SEAL_DOWN_FIELDS: usize = 3;
 
 const SEAL_UP_FIELDS: usize = 2;
 
-const OPEN_FIELDS: usize = 5;
+const OPEN_FIELDS: usize = 6;
 
-// Whether a line is a call and which, and where the digits of its octets and of its key stand.
+// Whether a line is a call and which, and where the digits stand of its octets, of its AUTH-Key and of the message keys for what is read and for
+// what is written.
 pub struct ReadCall {
     pub is_call: bool,
     pub call: Call,
     pub octets: Place,
-    pub key: Place,
+    pub auth: Place,
+    pub read: Place,
+    pub write: Place,
 }
 
 fn no_place() -> Place
@@ -55,26 +58,44 @@ fn no_place() -> Place
     Place { at: 0, count: 0 }
 }
 
+fn no_call() -> ReadCall
+    ensures { λ r. ⌜ r ≡ noRead ⌝ }
+{
+    let call = plain_call(Kind::Established, 0, 0, 0, 0, 0);
+    let place = no_place();
+    ReadCall {
+        is_call: false,
+        call: call,
+        octets: place,
+        auth: place,
+        read: place,
+        write: place,
+    }
+}
+
 // What was read, where it is a call.
-fn kept(on: bool, call: Call, octets: Place, key: Place) -> ReadCall
-    ensures { λ r. ⌜ r ≡ keptOf on call octets key ⌝ }
+fn kept(on: bool, call: Call, octets: Place, auth: Place, read: Place, write: Place) -> ReadCall
+    ensures { λ r. ⌜ r ≡ keptOf on call octets auth read write ⌝ }
 {
     if on {
         return ReadCall {
             is_call: true,
             call: call,
             octets: octets,
-            key: key,
+            auth: auth,
+            read: read,
+            write: write,
         };
     }
-    let none = plain_call(Kind::Established, 0, 0, 0, 0, 0);
-    let place = no_place();
-    ReadCall {
-        is_call: false,
-        call: none,
-        octets: place,
-        key: place,
-    }
+    no_call()
+}
+
+// The same of a call that brings numbers alone.
+fn kept_alone(on: bool, call: Call) -> ReadCall
+    ensures { λ r. ⌜ r ≡ aloneOf on call ⌝ }
+{
+    let none = no_place();
+    kept(on, call, none, none, none, none)
 }
 
 // The functions below read the fields of a line by its kind; each says what the form says of them.
@@ -106,7 +127,8 @@ fn read_list(line: &[u8], c: Cuts) -> ReadCall
         listing: listing,
     };
     let place = material.place;
-    kept(is_call, call, place, no_place())
+    let none = no_place();
+    kept(is_call, call, place, none, none, none)
 }
 
 fn read_clock(line: &[u8], c: Cuts) -> ReadCall
@@ -115,12 +137,16 @@ fn read_clock(line: &[u8], c: Cuts) -> ReadCall
 {
     let first = c.first;
     let second = c.second;
+    let third = c.third;
     let at = number_of(line, first);
     let material = octets_of(line, second);
-    let is_call = (c.count == CLOCK_FIELDS) & at.fits & material.fits;
+    let write = octets_of(line, third);
+    let is_call = (c.count == CLOCK_FIELDS) & at.fits & material.fits & write.fits;
     let call = plain_call(Kind::Clock, 0, 0, at.value, 0, 0);
     let place = material.place;
-    kept(is_call, call, place, no_place())
+    let none = no_place();
+    let write_place = write.place;
+    kept(is_call, call, place, none, none, write_place)
 }
 
 // A name alone.
@@ -129,8 +155,7 @@ fn read_bare(line: &[u8], c: Cuts, kind: Kind) -> ReadCall
     ensures { λ r. ⌜ Reads (now (line .entry)) (tellBare kind (fieldsOf (now (line .entry)))) r ⌝ }
 {
     let call = plain_call(kind, 0, 0, 0, 0, 0);
-    let place = no_place();
-    kept(c.count == BARE_FIELDS, call, place, place)
+    kept_alone(c.count == BARE_FIELDS, call)
 }
 
 fn read_up(line: &[u8], c: Cuts) -> ReadCall
@@ -141,15 +166,24 @@ fn read_up(line: &[u8], c: Cuts) -> ReadCall
     let second = c.second;
     let third = c.third;
     let fourth = c.fourth;
+    let fifth = c.fifth;
     let address = number_of(line, first);
-    let digest = flag_of(line, second);
-    let key = octets_of(line, third);
-    let octets = octets_of(line, fourth);
-    let is_call = (c.count == UP_FIELDS) & address.fits & digest.fits & key.fits & octets.fits;
-    let call = plain_call(Kind::Up, address.value, to_u8(digest.value), 0, 0, 0);
+    let read = octets_of(line, second);
+    let write = octets_of(line, third);
+    let auth = octets_of(line, fourth);
+    let octets = octets_of(line, fifth);
+    let is_call = (c.count == UP_FIELDS)
+        & address.fits
+        & read.fits
+        & write.fits
+        & auth.fits
+        & octets.fits;
+    let call = plain_call(Kind::Up, address.value, 0, 0, 0, 0);
     let place = octets.place;
-    let key_place = key.place;
-    kept(is_call, call, place, key_place)
+    let auth_place = auth.place;
+    let read_place = read.place;
+    let write_place = write.place;
+    kept(is_call, call, place, auth_place, read_place, write_place)
 }
 
 fn read_down(line: &[u8], c: Cuts) -> ReadCall
@@ -158,12 +192,16 @@ fn read_down(line: &[u8], c: Cuts) -> ReadCall
 {
     let first = c.first;
     let second = c.second;
-    let digest = flag_of(line, first);
-    let octets = octets_of(line, second);
-    let is_call = (c.count == DOWN_FIELDS) & digest.fits & octets.fits;
-    let call = plain_call(Kind::Down, 0, to_u8(digest.value), 0, 0, 0);
+    let third = c.third;
+    let read = octets_of(line, first);
+    let write = octets_of(line, second);
+    let octets = octets_of(line, third);
+    let is_call = (c.count == DOWN_FIELDS) & read.fits & write.fits & octets.fits;
+    let call = plain_call(Kind::Down, 0, 0, 0, 0, 0);
     let place = octets.place;
-    kept(is_call, call, place, no_place())
+    let read_place = read.place;
+    let write_place = write.place;
+    kept(is_call, call, place, no_place(), read_place, write_place)
 }
 
 fn read_seal_down(line: &[u8], c: Cuts) -> ReadCall
@@ -176,8 +214,7 @@ fn read_seal_down(line: &[u8], c: Cuts) -> ReadCall
     let said = number_of(line, second);
     let is_call = (c.count == SEAL_DOWN_FIELDS) & address.fits & said.fits;
     let call = plain_call(Kind::SealDown, address.value, 0, 0, to_u16(said.value), 0);
-    let place = no_place();
-    kept(is_call, call, place, place)
+    kept_alone(is_call, call)
 }
 
 fn read_seal_up(line: &[u8], c: Cuts) -> ReadCall
@@ -188,8 +225,7 @@ fn read_seal_up(line: &[u8], c: Cuts) -> ReadCall
     let said = number_of(line, first);
     let is_call = (c.count == SEAL_UP_FIELDS) & said.fits;
     let call = plain_call(Kind::SealUp, 0, 0, 0, to_u16(said.value), 0);
-    let place = no_place();
-    kept(is_call, call, place, place)
+    kept_alone(is_call, call)
 }
 
 fn read_open(line: &[u8], c: Cuts, kind: Kind) -> ReadCall
@@ -200,15 +236,18 @@ fn read_open(line: &[u8], c: Cuts, kind: Kind) -> ReadCall
     let second = c.second;
     let third = c.third;
     let fourth = c.fourth;
+    let fifth = c.fifth;
     let direction = number_of(line, first);
     let address = number_of(line, second);
     let said = number_of(line, third);
     let number = number_of(line, fourth);
+    let write = octets_of(line, fifth);
     let is_call = (c.count == OPEN_FIELDS)
         & direction.fits
         & address.fits
         & said.fits
-        & number.fits;
+        & number.fits
+        & write.fits;
     let call = plain_call(
         kind,
         address.value,
@@ -217,8 +256,9 @@ fn read_open(line: &[u8], c: Cuts, kind: Kind) -> ReadCall
         to_u16(said.value),
         to_u8(number.value),
     );
-    let place = no_place();
-    kept(is_call, call, place, place)
+    let none = no_place();
+    let write_place = write.place;
+    kept(is_call, call, none, none, none, write_place)
 }
 
 fn read_kind(line: &[u8], c: Cuts, kind: Kind) -> ReadCall
@@ -237,14 +277,6 @@ fn read_kind(line: &[u8], c: Cuts, kind: Kind) -> ReadCall
         Kind::OpenUp => read_open(line, c, Kind::OpenUp),
         Kind::OpenDown => read_open(line, c, Kind::OpenDown),
     }
-}
-
-fn no_call() -> ReadCall
-    ensures { λ r. ⌜ r ≡ keptOf false noCall noPlace noPlace ⌝ }
-{
-    let call = plain_call(Kind::Established, 0, 0, 0, 0, 0);
-    let place = no_place();
-    kept(false, call, place, place)
 }
 
 // What a line says.

@@ -6,9 +6,6 @@ use key_association::listing::Listing;
 use key_association::listing::no_listing;
 use key_traffic::numbers::TekNumber;
 
-// `word` of a message whose digest holds.
-pub const DIGEST_HOLDS: u8 = 1;
-
 // Which call it is: a listing, the clock at both ends, the modem's own two, a message to the head-end and one to the modem, a sealing at the
 // head-end and at the modem, an opening at the head-end and at the modem.
 pub enum Kind {
@@ -24,8 +21,8 @@ pub enum Kind {
     OpenDown,
 }
 
-// The call with its numbers; those that its kind does not bring are 0. `word` is 1 for an allowed modem or a digest that holds and 0 where
-// not, and at an opening the direction.
+// The call with its numbers; those that its kind does not bring are 0. `word` is 1 for an allowed modem and 0 for a barred one, and at an opening
+// the direction.
 pub struct Call {
     pub kind: Kind,
     pub address: u64,

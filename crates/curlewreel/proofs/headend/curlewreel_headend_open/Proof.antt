@@ -75,7 +75,7 @@ use Rattle.curlewreel.proofs.headend.curlewreel_headend_open.Code as co
 use Rattle.curlewreel.proofs.headend.curlewreel_headend_open.Code.Mir as mir′
 
 abbrev stayed : Stays (curlewreel-headend-open₀.ended .signature .params) (curlewreel-headend-open₀.ended .kept)
-stayed = (stay-none (λ _. HeadEnd₁.the-row) yes, (stay-none-slice (0 ∷ []) tt (plain (λ _. Assoc₁.the-row)) yes, (stay-none (λ _. u8) yes, (stay-none (λ _. u64) yes, (stay-none (λ _. u16) yes, (stay-none (λ _. u8) yes, (gave-slice (1 ∷ []) tt (plain (λ _. u8)), (gave-slice (2 ∷ []) tt (plain (λ _. u8)), (gave-slice (3 ∷ []) tt (plain (λ _. u8)), tt)))))))))
+stayed = (stay-none (λ _. HeadEnd₁.the-row) yes, (stay-none-slice (0 ∷ []) tt (plain (λ _. Assoc₁.the-row)) yes, (stay-none (λ _. u8) yes, (stay-none (λ _. u64) yes, (stay-none (λ _. u16) yes, (stay-none (λ _. u8) yes, (stay-none-slice (1 ∷ []) tt (plain (λ _. u8)) yes, (gave-slice (2 ∷ []) tt (plain (λ _. u8)), (gave-slice (3 ∷ []) tt (plain (λ _. u8)), (gave-slice (4 ∷ []) tt (plain (λ _. u8)), tt))))))))))
 
 -- the contracts that the proof cites
 module _ {M : Type 1} (𝓤 : URA M) (H : Heap 𝓤) (A : Atoms 𝓤) (mem : Memory → SProp 𝓤) (run : Routine → Fun 𝓤) where
@@ -88,49 +88,55 @@ module _ {M : Type 1} (𝓤 : URA M) (H : Heap 𝓤) (A : Atoms 𝓤) (mem : Mem
   abbrev HeadendOpeningᶜ : Contract 𝓤
   HeadendOpeningᶜ = tripleOf 𝓤 H A headend-opening′.signature (headend-opening′.spec 𝓤 H A mem run)
 
-module _ {M : Type 1} (𝓤 : URA M) (H : Heap 𝓤) (A : Atoms 𝓤) (W : Given 𝓤 H A) (mem : Memory → SProp 𝓤) (run : Routine → Fun 𝓤) (κ μ κ₃ κ₄ : Lft) (q p q₃ q₄ : Share) (h : HeadEnd) (records : RefT (List Assoc)) (direction : ℕ) (address : ℕ) (said : ℕ) (number : ℕ) (tek : RefT (List ℕ)) (vector : RefT (List ℕ)) (invalid : RefT (List ℕ)) (h-is : Is HeadEnd₁.the-row h ((LL.val HeadEnd₁.the-type HeadEnd₁′.the-laws h) ∷ [])) (records-room : Room Assoc₁.the-row (length (records .now))) (direction-fits : direction < 2 ^ 8) (address-fits : address < 2 ^ 64) (said-fits : said < 2 ^ 16) (number-fits : number < 2 ^ 8) (tek-room : Room u8 (length (tek .now))) (vector-room : Room u8 (length (vector .now))) (invalid-room : Room u8 (length (invalid .now))) where
+module _ {M : Type 1} (𝓤 : URA M) (H : Heap 𝓤) (A : Atoms 𝓤) (W : Given 𝓤 H A) (mem : Memory → SProp 𝓤) (run : Routine → Fun 𝓤) (κ μ κ₃ κ₄ κ₅ : Lft) (q p q₃ q₄ q₅ : Share) (h : HeadEnd) (records : RefT (List Assoc)) (direction : ℕ) (address : ℕ) (said : ℕ) (number : ℕ) (write-key : RefT (List ℕ)) (tek : RefT (List ℕ)) (vector : RefT (List ℕ)) (invalid : RefT (List ℕ)) (h-is : Is HeadEnd₁.the-row h ((LL.val HeadEnd₁.the-type HeadEnd₁′.the-laws h) ∷ [])) (records-room : Room Assoc₁.the-row (length (records .now))) (direction-fits : direction < 2 ^ 8) (address-fits : address < 2 ^ 64) (said-fits : said < 2 ^ 16) (number-fits : number < 2 ^ 8) (write-key-room : Room u8 (length (write-key .now))) (tek-room : Room u8 (length (tek .now))) (vector-room : Room u8 (length (vector .now))) (invalid-room : Room u8 (length (invalid .now))) where
   abbrev records-val : Val
   records-val = sliceVal (records .ptr) (length (records .now))
 
   abbrev Records′ : Fml
   Records′ = ShrSlice (named 0) κ Assoc₁.the-row .own records (records-val ∷ [])
 
+  abbrev write-key-val : Val
+  write-key-val = sliceVal (write-key .ptr) (length (write-key .now))
+
+  abbrev Write-key′ : Fml
+  Write-key′ = ShrSlice (named 1) μ u8 .own write-key (write-key-val ∷ [])
+
   abbrev tek-val : Val
   tek-val = sliceVal (tek .ptr) (length (tek .now))
 
   abbrev Tek′ : Fml
-  Tek′ = MutSlice (named 1) μ u8 .own tek (tek-val ∷ [])
+  Tek′ = MutSlice (named 2) κ₃ u8 .own tek (tek-val ∷ [])
 
   abbrev vector-val : Val
   vector-val = sliceVal (vector .ptr) (length (vector .now))
 
   abbrev Vector′ : Fml
-  Vector′ = MutSlice (named 2) κ₃ u8 .own vector (vector-val ∷ [])
+  Vector′ = MutSlice (named 3) κ₄ u8 .own vector (vector-val ∷ [])
 
   abbrev invalid-val : Val
   invalid-val = sliceVal (invalid .ptr) (length (invalid .now))
 
   abbrev Invalid′ : Fml
-  Invalid′ = MutSlice (named 3) κ₄ u8 .own invalid (invalid-val ∷ [])
+  Invalid′ = MutSlice (named 4) κ₅ u8 .own invalid (invalid-val ∷ [])
 
   abbrev Arg : Type 0
-  Arg = HeadEnd × (RefT (List Assoc) × (ℕ × (ℕ × (ℕ × (ℕ × (RefT (List ℕ) × (RefT (List ℕ) × (RefT (List ℕ) × Unit {0}))))))))
+  Arg = HeadEnd × (RefT (List Assoc) × (ℕ × (ℕ × (ℕ × (ℕ × (RefT (List ℕ) × (RefT (List ℕ) × (RefT (List ℕ) × (RefT (List ℕ) × Unit {0})))))))))
 
   abbrev a : Arg
-  a = (h, (records, (direction, (address, (said, (number, (tek, (vector, (invalid, tt)))))))))
+  a = (h, (records, (direction, (address, (said, (number, (write-key, (tek, (vector, (invalid, tt))))))))))
 
-  abbrev vals : List Val × (List Val × (List Val × (List Val × (List Val × (List Val × (List Val × (List Val × (List Val × Unit {0}))))))))
-  vals = ((LL.val HeadEnd₁.the-type HeadEnd₁′.the-laws h) ∷ [], (records-val ∷ [], ((vint w8 direction) ∷ [], ((vint w64 address) ∷ [], ((vint w16 said) ∷ [], ((vint w8 number) ∷ [], (tek-val ∷ [], (vector-val ∷ [], (invalid-val ∷ [], tt)))))))))
+  abbrev vals : List Val × (List Val × (List Val × (List Val × (List Val × (List Val × (List Val × (List Val × (List Val × (List Val × Unit {0})))))))))
+  vals = ((LL.val HeadEnd₁.the-type HeadEnd₁′.the-laws h) ∷ [], (records-val ∷ [], ((vint w8 direction) ∷ [], ((vint w64 address) ∷ [], ((vint w16 said) ∷ [], ((vint w8 number) ∷ [], (write-key-val ∷ [], (tek-val ∷ [], (vector-val ∷ [], (invalid-val ∷ [], tt))))))))))
 
   abbrev Post : Val → SProp 𝓤
-  Post = walkOf 𝓤 H A curlewreel-headend-open₀.ended stayed (curlewreel-headend-open₀.clauses 𝓤 H A mem run) .post ((((κ, (μ, (κ₃, (κ₄, tt)))), (q, (p, (q₃, (q₄, tt)))), tt, a, vals), tt))
+  Post = walkOf 𝓤 H A curlewreel-headend-open₀.ended stayed (curlewreel-headend-open₀.clauses 𝓤 H A mem run) .post ((((κ, (μ, (κ₃, (κ₄, (κ₅, tt))))), (q, (p, (q₃, (q₄, (q₅, tt))))), tt, a, vals), tt))
 
-  exits : (r : HeadEndOpening) (w : Val) (zs-tek : List ℕ) (zs-vector : List ℕ) (zs-invalid : List ℕ) → Is HeadEndOpening₁.the-row r (w ∷ []) → length zs-tek ≡ length (tek .now) → length zs-vector ≡ length (vector .now) → length zs-invalid ≡ length (invalid .now) → (r ≡ headEndOpening (openCalled (openOf h (records .now) direction address said (record { 0 = number }) (length (tek .now)) (length (vector .now)) (length (invalid .now))))) × (zs-tek ≡ overlay (tek .now) ((openOf h (records .now) direction address said (record { 0 = number }) (length (tek .now)) (length (vector .now)) (length (invalid .now))) .out .tek)) × (zs-vector ≡ overlay (vector .now) ((openOf h (records .now) direction address said (record { 0 = number }) (length (tek .now)) (length (vector .now)) (length (invalid .now))) .out .vector)) × (zs-invalid ≡ overlay (invalid .now) ((openOf h (records .now) direction address said (record { 0 = number }) (length (tek .now)) (length (vector .now)) (length (invalid .now))) .invalid))
-      → ent 𝓤 (⋆ 𝓤 H A (‵ Records′ ∷ ‵ (flft κ q) ∷ ‵ (finally u8 (tek .name) zs-tek) ∷ ‵ (flft μ p) ∷ ‵ (finally u8 (vector .name) zs-vector) ∷ ‵ (flft κ₃ q₃) ∷ ‵ (finally u8 (invalid .name) zs-invalid) ∷ ‵ (flft κ₄ q₄) ∷ [])) (Post w)
+  exits : (r : HeadEndOpening) (w : Val) (zs-tek : List ℕ) (zs-vector : List ℕ) (zs-invalid : List ℕ) → Is HeadEndOpening₁.the-row r (w ∷ []) → length zs-tek ≡ length (tek .now) → length zs-vector ≡ length (vector .now) → length zs-invalid ≡ length (invalid .now) → (r ≡ headEndOpening (openCalled (openOf h (records .now) direction address said (record { 0 = number }) (write-key .now) (length (tek .now)) (length (vector .now)) (length (invalid .now))))) × (zs-tek ≡ overlay (tek .now) ((openOf h (records .now) direction address said (record { 0 = number }) (write-key .now) (length (tek .now)) (length (vector .now)) (length (invalid .now))) .out .tek)) × (zs-vector ≡ overlay (vector .now) ((openOf h (records .now) direction address said (record { 0 = number }) (write-key .now) (length (tek .now)) (length (vector .now)) (length (invalid .now))) .out .vector)) × (zs-invalid ≡ overlay (invalid .now) ((openOf h (records .now) direction address said (record { 0 = number }) (write-key .now) (length (tek .now)) (length (vector .now)) (length (invalid .now))) .invalid))
+      → ent 𝓤 (⋆ 𝓤 H A (‵ Records′ ∷ ‵ (flft κ q) ∷ ‵ Write-key′ ∷ ‵ (flft μ p) ∷ ‵ (finally u8 (tek .name) zs-tek) ∷ ‵ (flft κ₃ q₃) ∷ ‵ (finally u8 (vector .name) zs-vector) ∷ ‵ (flft κ₄ q₄) ∷ ‵ (finally u8 (invalid .name) zs-invalid) ∷ ‵ (flft κ₅ q₅) ∷ [])) (Post w)
   exits r w zs-tek zs-vector zs-invalid is same-tek same-vector same-invalid right =
-      qed W (‵ Records′ ∷ ‵ (flft κ q) ∷ ‵ (finally u8 (tek .name) zs-tek) ∷ ‵ (flft μ p) ∷ ‵ (finally u8 (vector .name) zs-vector) ∷ ‵ (flft κ₃ q₃) ∷ ‵ (finally u8 (invalid .name) zs-invalid) ∷ ‵ (flft κ₄ q₄) ∷ []) ∵
-      suffices ! _ (ends-at 𝓤 H A curlewreel-headend-open₀.ended stayed (curlewreel-headend-open₀.clauses 𝓤 H A mem run) W ((((κ, (μ, (κ₃, (κ₄, tt)))), (q, (p, (q₃, (q₄, tt)))), tt, a, vals), tt)) w r (tt, (tt, (tt, (tt, (tt, (tt, (zs-tek, (zs-vector, (zs-invalid, tt))))))))) (tt, (tt, (tt, (tt, (tt, (tt, (same-tek, (same-vector, (same-invalid, tt)))))))))) $ says ! right $
-      nothing ! $ move ! (8 ∷ 0 ∷ []) $ join ! $ move ! (6 ∷ 0 ∷ []) $ join ! $ move ! (4 ∷ 0 ∷ []) $ join ! $ move ! (2 ∷ 0 ∷ []) $ join ! $ frame ! $ nothing ! $ move ! (4 ∷ 0 ∷ []) $ fjoin ! $ move ! (3 ∷ 0 ∷ []) $ fjoin ! $ move ! (2 ∷ 0 ∷ []) $ fjoin ! $ owned ! u8 (Is u8) (uint-makes 𝓤 H A W w8) number _ (refl, number-fits) $ fjoin ! $ owned ! u16 (Is u16) (uint-makes 𝓤 H A W w16) said _ (refl, said-fits) $ fjoin ! $ owned ! u64 (Is u64) (uint-makes 𝓤 H A W w64) address _ (refl, address-fits) $ fjoin ! $ owned ! u8 (Is u8) (uint-makes 𝓤 H A W w8) direction _ (refl, direction-fits) $ fjoin ! $ move ! (1 ∷ 0 ∷ []) $ fjoin ! $ owned ! HeadEnd₁.the-row (Is HeadEnd₁.the-row) (LL.makes HeadEnd₁.the-type HeadEnd₁′.the-plain 𝓤 H A) h _ h-is $ fjoin ! $ frame ! $ owned ! HeadEndOpening₁.the-row (Is HeadEndOpening₁.the-row) (LL.makes HeadEndOpening₁.the-type HeadEndOpening₁′.the-plain 𝓤 H A) r _ is $ done !
+      qed W (‵ Records′ ∷ ‵ (flft κ q) ∷ ‵ Write-key′ ∷ ‵ (flft μ p) ∷ ‵ (finally u8 (tek .name) zs-tek) ∷ ‵ (flft κ₃ q₃) ∷ ‵ (finally u8 (vector .name) zs-vector) ∷ ‵ (flft κ₄ q₄) ∷ ‵ (finally u8 (invalid .name) zs-invalid) ∷ ‵ (flft κ₅ q₅) ∷ []) ∵
+      suffices ! _ (ends-at 𝓤 H A curlewreel-headend-open₀.ended stayed (curlewreel-headend-open₀.clauses 𝓤 H A mem run) W ((((κ, (μ, (κ₃, (κ₄, (κ₅, tt))))), (q, (p, (q₃, (q₄, (q₅, tt))))), tt, a, vals), tt)) w r (tt, (tt, (tt, (tt, (tt, (tt, (tt, (zs-tek, (zs-vector, (zs-invalid, tt)))))))))) (tt, (tt, (tt, (tt, (tt, (tt, (tt, (same-tek, (same-vector, (same-invalid, tt))))))))))) $ says ! right $
+      nothing ! $ move ! (10 ∷ 0 ∷ []) $ join ! $ move ! (8 ∷ 0 ∷ []) $ join ! $ move ! (6 ∷ 0 ∷ []) $ join ! $ move ! (4 ∷ 0 ∷ []) $ join ! $ move ! (2 ∷ 0 ∷ []) $ join ! $ frame ! $ nothing ! $ move ! (5 ∷ 0 ∷ []) $ fjoin ! $ move ! (4 ∷ 0 ∷ []) $ fjoin ! $ move ! (3 ∷ 0 ∷ []) $ fjoin ! $ move ! (2 ∷ 0 ∷ []) $ fjoin ! $ owned ! u8 (Is u8) (uint-makes 𝓤 H A W w8) number _ (refl, number-fits) $ fjoin ! $ owned ! u16 (Is u16) (uint-makes 𝓤 H A W w16) said _ (refl, said-fits) $ fjoin ! $ owned ! u64 (Is u64) (uint-makes 𝓤 H A W w64) address _ (refl, address-fits) $ fjoin ! $ owned ! u8 (Is u8) (uint-makes 𝓤 H A W w8) direction _ (refl, direction-fits) $ fjoin ! $ move ! (1 ∷ 0 ∷ []) $ fjoin ! $ owned ! HeadEnd₁.the-row (Is HeadEnd₁.the-row) (LL.makes HeadEnd₁.the-type HeadEnd₁′.the-plain 𝓤 H A) h _ h-is $ fjoin ! $ frame ! $ owned ! HeadEndOpening₁.the-row (Is HeadEndOpening₁.the-row) (LL.makes HeadEndOpening₁.the-type HeadEndOpening₁′.the-plain 𝓤 H A) r _ is $ done !
 
   -- ---- `tek_number`
   abbrev tek-number-1-Args : Type 0
@@ -151,19 +157,19 @@ module _ {M : Type 1} (𝓤 : URA M) (H : Heap 𝓤) (A : Atoms 𝓤) (W : Given
   -- ---- `open`
   module _ (tekno : TekNumber) (tekno-u : Val) (tekno-is : Is TekNumber₁.the-row tekno (tekno-u ∷ [])) where
     abbrev open-Args : Type 0
-    open-Args = HeadEnd × (RefT (List Assoc) × (ℕ × (ℕ × (ℕ × (TekNumber × (RefT (List ℕ) × (RefT (List ℕ) × (RefT (List ℕ) × Unit {0}))))))))
+    open-Args = HeadEnd × (RefT (List Assoc) × (ℕ × (ℕ × (ℕ × (TekNumber × (RefT (List ℕ) × (RefT (List ℕ) × (RefT (List ℕ) × (RefT (List ℕ) × Unit {0})))))))))
 
     abbrev open-args : open-Args
-    open-args = (h, (records, (direction, (address, (said, (tekno, (tek, (vector, (invalid, tt)))))))))
+    open-args = (h, (records, (direction, (address, (said, (tekno, (write-key, (tek, (vector, (invalid, tt))))))))))
 
     abbrev to-open : Openᶜ 𝓤 H A mem run .Ghost
-    to-open = (((κ, (μ, (κ₃, (κ₄, tt)))), (q, (p, (q₃, (q₄, tt)))), tt, open-args, ((LL.val HeadEnd₁.the-type HeadEnd₁′.the-laws h) ∷ [], (records-val ∷ [], ((vint w8 direction) ∷ [], ((vint w64 address) ∷ [], ((vint w16 said) ∷ [], (tekno-u ∷ [], (tek-val ∷ [], (vector-val ∷ [], (invalid-val ∷ [], tt)))))))))), tt)
+    to-open = (((κ, (μ, (κ₃, (κ₄, (κ₅, tt))))), (q, (p, (q₃, (q₄, (q₅, tt))))), tt, open-args, ((LL.val HeadEnd₁.the-type HeadEnd₁′.the-laws h) ∷ [], (records-val ∷ [], ((vint w8 direction) ∷ [], ((vint w64 address) ∷ [], ((vint w16 said) ∷ [], (tekno-u ∷ [], (write-key-val ∷ [], (tek-val ∷ [], (vector-val ∷ [], (invalid-val ∷ [], tt))))))))))), tt)
 
-    goes-open : ent 𝓤 (sep 𝓤 (sep 𝓤 (A .lft κ q) (sep 𝓤 (A .lft μ p) (sep 𝓤 (A .lft κ₃ q₃) (A .lft κ₄ q₄)))) (sem 𝓤 H A (fsep Records′ (fsep Tek′ (fsep Vector′ Invalid′))))) (Openᶜ 𝓤 H A mem run .pre to-open)
-    goes-open = qed W ((‵ (flft κ q) ⊛ (‵ (flft μ p) ⊛ (‵ (flft κ₃ q₃) ⊛ ‵ (flft κ₄ q₄)))) ∷ ‵ (fsep Records′ (fsep Tek′ (fsep Vector′ Invalid′))) ∷ []) ∵ split ! $ move ! (1 ∷ []) $ split ! $ move ! (1 ∷ []) $ split ! $ move ! (1 ∷ []) $ move ! (4 ∷ []) $ fsplit ! $ move ! (1 ∷ []) $ fsplit ! $ move ! (1 ∷ []) $ fsplit ! $ move ! (1 ∷ []) $ nothing ! $ move ! (5 ∷ 0 ∷ []) $ join ! $ move ! (5 ∷ 0 ∷ []) $ join ! $ move ! (5 ∷ 0 ∷ []) $ join ! $ move ! (5 ∷ 0 ∷ []) $ join ! $ nothing ! $ move ! (2 ∷ 0 ∷ []) $ fjoin ! $ move ! (2 ∷ 0 ∷ []) $ fjoin ! $ move ! (2 ∷ 0 ∷ []) $ fjoin ! $ owned ! TekNumber₁.the-row (Is TekNumber₁.the-row) (LL.makes TekNumber₁.the-type TekNumber₁′.the-plain 𝓤 H A) tekno _ tekno-is $ fjoin ! $ owned ! u16 (Is u16) (uint-makes 𝓤 H A W w16) said _ (refl, said-fits) $ fjoin ! $ owned ! u64 (Is u64) (uint-makes 𝓤 H A W w64) address _ (refl, address-fits) $ fjoin ! $ owned ! u8 (Is u8) (uint-makes 𝓤 H A W w8) direction _ (refl, direction-fits) $ fjoin ! $ move ! (2 ∷ 0 ∷ []) $ fjoin ! $ owned ! HeadEnd₁.the-row (Is HeadEnd₁.the-row) (LL.makes HeadEnd₁.the-type HeadEnd₁′.the-plain 𝓤 H A) h _ h-is $ fjoin ! $ move ! (1 ∷ 0 ∷ []) $ join ! $ frame ! $ done !
+    goes-open : ent 𝓤 (sep 𝓤 (sep 𝓤 (A .lft κ q) (sep 𝓤 (A .lft μ p) (sep 𝓤 (A .lft κ₃ q₃) (sep 𝓤 (A .lft κ₄ q₄) (A .lft κ₅ q₅))))) (sem 𝓤 H A (fsep Records′ (fsep Write-key′ (fsep Tek′ (fsep Vector′ Invalid′)))))) (Openᶜ 𝓤 H A mem run .pre to-open)
+    goes-open = qed W ((‵ (flft κ q) ⊛ (‵ (flft μ p) ⊛ (‵ (flft κ₃ q₃) ⊛ (‵ (flft κ₄ q₄) ⊛ ‵ (flft κ₅ q₅))))) ∷ ‵ (fsep Records′ (fsep Write-key′ (fsep Tek′ (fsep Vector′ Invalid′)))) ∷ []) ∵ split ! $ move ! (1 ∷ []) $ split ! $ move ! (1 ∷ []) $ split ! $ move ! (1 ∷ []) $ split ! $ move ! (1 ∷ []) $ move ! (5 ∷ []) $ fsplit ! $ move ! (1 ∷ []) $ fsplit ! $ move ! (1 ∷ []) $ fsplit ! $ move ! (1 ∷ []) $ fsplit ! $ move ! (1 ∷ []) $ nothing ! $ move ! (6 ∷ 0 ∷ []) $ join ! $ move ! (6 ∷ 0 ∷ []) $ join ! $ move ! (6 ∷ 0 ∷ []) $ join ! $ move ! (6 ∷ 0 ∷ []) $ join ! $ move ! (6 ∷ 0 ∷ []) $ join ! $ nothing ! $ move ! (2 ∷ 0 ∷ []) $ fjoin ! $ move ! (2 ∷ 0 ∷ []) $ fjoin ! $ move ! (2 ∷ 0 ∷ []) $ fjoin ! $ move ! (2 ∷ 0 ∷ []) $ fjoin ! $ owned ! TekNumber₁.the-row (Is TekNumber₁.the-row) (LL.makes TekNumber₁.the-type TekNumber₁′.the-plain 𝓤 H A) tekno _ tekno-is $ fjoin ! $ owned ! u16 (Is u16) (uint-makes 𝓤 H A W w16) said _ (refl, said-fits) $ fjoin ! $ owned ! u64 (Is u64) (uint-makes 𝓤 H A W w64) address _ (refl, address-fits) $ fjoin ! $ owned ! u8 (Is u8) (uint-makes 𝓤 H A W w8) direction _ (refl, direction-fits) $ fjoin ! $ move ! (2 ∷ 0 ∷ []) $ fjoin ! $ owned ! HeadEnd₁.the-row (Is HeadEnd₁.the-row) (LL.makes HeadEnd₁.the-type HeadEnd₁′.the-plain 𝓤 H A) h _ h-is $ fjoin ! $ move ! (1 ∷ 0 ∷ []) $ join ! $ frame ! $ done !
 
     abbrev Given-back : OpenedCall → List ℕ → List ℕ → List ℕ → Type 0
-    Given-back r zs-tek zs-vector zs-invalid = (r ≡ openCalled (openOf h (records .now) direction address said tekno (length (tek .now)) (length (vector .now)) (length (invalid .now)))) × (zs-tek ≡ overlay (tek .now) ((openOf h (records .now) direction address said tekno (length (tek .now)) (length (vector .now)) (length (invalid .now))) .out .tek)) × (zs-vector ≡ overlay (vector .now) ((openOf h (records .now) direction address said tekno (length (tek .now)) (length (vector .now)) (length (invalid .now))) .out .vector)) × (zs-invalid ≡ overlay (invalid .now) ((openOf h (records .now) direction address said tekno (length (tek .now)) (length (vector .now)) (length (invalid .now))) .invalid))
+    Given-back r zs-tek zs-vector zs-invalid = (r ≡ openCalled (openOf h (records .now) direction address said tekno (write-key .now) (length (tek .now)) (length (vector .now)) (length (invalid .now)))) × (zs-tek ≡ overlay (tek .now) ((openOf h (records .now) direction address said tekno (write-key .now) (length (tek .now)) (length (vector .now)) (length (invalid .now))) .out .tek)) × (zs-vector ≡ overlay (vector .now) ((openOf h (records .now) direction address said tekno (write-key .now) (length (tek .now)) (length (vector .now)) (length (invalid .now))) .out .vector)) × (zs-invalid ≡ overlay (invalid .now) ((openOf h (records .now) direction address said tekno (write-key .now) (length (tek .now)) (length (vector .now)) (length (invalid .now))) .invalid))
 
   -- ---- `headend_opening`
   module _ (got : OpenedCall) (got-u : Val) (got-is : Is OpenedCall₁.the-row got (got-u ∷ [])) where
@@ -182,42 +188,50 @@ module _ {M : Type 1} (𝓤 : URA M) (H : Heap 𝓤) (A : Atoms 𝓤) (W : Given
     said-headend-opening-last : (r : HeadEndOpening) → ent 𝓤 (ensured 𝓤 H A headend-opening′.ended (headend-opening′.clauses 𝓤 H A mem run) tt headend-opening-last-args tt r) (fact 𝓤 (r ≡ headEndOpening got))
     said-headend-opening-last r = exE 𝓤 _ (λ ws. snd∗ 𝓤 (sem 𝓤 H A (lasts headend-opening′.ended tt headend-opening-last-args ws)) (fact 𝓤 (r ≡ headEndOpening got)))
 
-  module _ (C : Calls 𝓤 H) (Λ : Loops 𝓤 H) (fm : FmC 𝓤 H (W .laws) C) (known-tek-number : Triple 𝓤 (C #curlewreel·headend-values·tek-number) (TekNumberᶜ 𝓤 H A mem run)) (known-open : Triple 𝓤 (C #headend-calls·frames·open) (Openᶜ 𝓤 H A mem run)) (known-headend-opening : Triple 𝓤 (C #curlewreel·headend-values·headend-opening) (HeadendOpeningᶜ 𝓤 H A mem run)) (l₀ l₁ l₂ l₃ l₄ l₅ l₆ l₇ l₈ l₉ l₁₀ l₁₁ l₁₂ l₁₃ l₁₄ l₁₅ l₁₆ l₁₇ : ℕ) where
+  module _ (C : Calls 𝓤 H) (Λ : Loops 𝓤 H) (fm : FmC 𝓤 H (W .laws) C) (known-tek-number : Triple 𝓤 (C #curlewreel·headend-values·tek-number) (TekNumberᶜ 𝓤 H A mem run)) (known-open : Triple 𝓤 (C #headend-calls·frames·open) (Openᶜ 𝓤 H A mem run)) (known-headend-opening : Triple 𝓤 (C #curlewreel·headend-values·headend-opening) (HeadendOpeningᶜ 𝓤 H A mem run)) (l₀ l₁ l₂ l₃ l₄ l₅ l₆ l₇ l₈ l₉ l₁₀ l₁₁ l₁₂ l₁₃ l₁₄ l₁₅ l₁₆ l₁₇ l₁₈ : ℕ) where
     abbrev En : Env 𝓤 H
-    En = (HeadEndOpening₁′.mir, l₀) ∷ (HeadEnd₁′.mir, l₁) ∷ ((sliceTy (tyRef (named 0) imm (pointee (Assoc₁.the-row .written)))), l₂) ∷ ((tyInt w8), l₃) ∷ ((tyInt w64), l₄) ∷ ((tyInt w16), l₅) ∷ ((tyInt w8), l₆) ∷ ((sliceTy (tyRef (named 1) mut (tyInt w8))), l₇) ∷ ((sliceTy (tyRef (named 2) mut (tyInt w8))), l₈) ∷ ((sliceTy (tyRef (named 3) mut (tyInt w8))), l₉) ∷ (TekNumber₁′.mir, l₁₀) ∷ (OpenedCall₁′.mir, l₁₁) ∷ ((tyRef erased mut (tyInt w8)), l₁₂) ∷ ((sliceTy (tyRef erased mut (tyInt w8))), l₁₃) ∷ ((tyRef erased mut (tyInt w8)), l₁₄) ∷ ((sliceTy (tyRef erased mut (tyInt w8))), l₁₅) ∷ ((tyRef erased mut (tyInt w8)), l₁₆) ∷ ((sliceTy (tyRef erased mut (tyInt w8))), l₁₇) ∷ []
+    En = (HeadEndOpening₁′.mir, l₀) ∷ (HeadEnd₁′.mir, l₁) ∷ ((sliceTy (tyRef (named 0) imm (pointee (Assoc₁.the-row .written)))), l₂) ∷ ((tyInt w8), l₃) ∷ ((tyInt w64), l₄) ∷ ((tyInt w16), l₅) ∷ ((tyInt w8), l₆) ∷ ((sliceTy (tyRef (named 1) imm (tyInt w8))), l₇) ∷ ((sliceTy (tyRef (named 2) mut (tyInt w8))), l₈) ∷ ((sliceTy (tyRef (named 3) mut (tyInt w8))), l₉) ∷ ((sliceTy (tyRef (named 4) mut (tyInt w8))), l₁₀) ∷ (TekNumber₁′.mir, l₁₁) ∷ (OpenedCall₁′.mir, l₁₂) ∷ ((tyRef erased mut (tyInt w8)), l₁₃) ∷ ((sliceTy (tyRef erased mut (tyInt w8))), l₁₄) ∷ ((tyRef erased mut (tyInt w8)), l₁₅) ∷ ((sliceTy (tyRef erased mut (tyInt w8))), l₁₆) ∷ ((tyRef erased mut (tyInt w8)), l₁₇) ∷ ((sliceTy (tyRef erased mut (tyInt w8))), l₁₈) ∷ []
 
-    stage-2 : (tekno : TekNumber) (tekno-u : Val) (tekno-is : Is TekNumber₁.the-row tekno (tekno-u ∷ [])) (tekno-e : tekno ≡ record { 0 = number }) → Sq W (‵ Records′ ∷ ‵ (flft κ q) ∷ ‵ Tek′ ∷ ‵ (flft μ p) ∷ ‵ Vector′ ∷ ‵ (flft κ₃ q₃) ∷ ‵ Invalid′ ∷ ‵ (flft κ₄ q₄) ∷ ‵ (froom (sliceTy (tyRef erased mut (tyInt w8))) l₁₇ 0) ∷ ‵ (fdies (sliceTy (tyRef erased mut (tyInt w8))) l₁₇) ∷ ‵ (froom (tyRef erased mut (tyInt w8)) l₁₆ 0) ∷ ‵ (fdies (tyRef erased mut (tyInt w8)) l₁₆) ∷ ‵ (froom (sliceTy (tyRef erased mut (tyInt w8))) l₁₅ 0) ∷ ‵ (fdies (sliceTy (tyRef erased mut (tyInt w8))) l₁₅) ∷ ‵ (froom (tyRef erased mut (tyInt w8)) l₁₄ 0) ∷ ‵ (fdies (tyRef erased mut (tyInt w8)) l₁₄)
-        ∷ ‵ (froom (sliceTy (tyRef erased mut (tyInt w8))) l₁₃ 0) ∷ ‵ (fdies (sliceTy (tyRef erased mut (tyInt w8))) l₁₃) ∷ ‵ (froom (tyRef erased mut (tyInt w8)) l₁₂ 0) ∷ ‵ (fdies (tyRef erased mut (tyInt w8)) l₁₂) ∷ ‵ (froom OpenedCall₁′.mir l₁₁ 0) ∷ ‵ (fdies OpenedCall₁′.mir l₁₁) ∷ ‵ (fat fullShare TekNumber₁′.mir l₁₀ 0 tekno-u) ∷ ‵ (fdies TekNumber₁′.mir l₁₀)
-        ∷ ‵ (fat fullShare (sliceTy (tyRef (named 3) mut (tyInt w8))) l₉ 0 invalid-val) ∷ ‵ (fdies (sliceTy (tyRef (named 3) mut (tyInt w8))) l₉) ∷ ‵ (fat fullShare (sliceTy (tyRef (named 2) mut (tyInt w8))) l₈ 0 vector-val) ∷ ‵ (fdies (sliceTy (tyRef (named 2) mut (tyInt w8))) l₈) ∷ ‵ (fat fullShare (sliceTy (tyRef (named 1) mut (tyInt w8))) l₇ 0 tek-val) ∷ ‵ (fdies (sliceTy (tyRef (named 1) mut (tyInt w8))) l₇) ∷ ‵ (fat fullShare (tyInt w8) l₆ 0 (vint w8 number)) ∷ ‵ (fdies (tyInt w8) l₆)
-        ∷ ‵ (fat fullShare (tyInt w16) l₅ 0 (vint w16 said)) ∷ ‵ (fdies (tyInt w16) l₅) ∷ ‵ (fat fullShare (tyInt w64) l₄ 0 (vint w64 address)) ∷ ‵ (fdies (tyInt w64) l₄) ∷ ‵ (fat fullShare (tyInt w8) l₃ 0 (vint w8 direction)) ∷ ‵ (fdies (tyInt w8) l₃) ∷ ‵ (fat fullShare (sliceTy (tyRef (named 0) imm (pointee (Assoc₁.the-row .written)))) l₂ 0 records-val) ∷ ‵ (fdies (sliceTy (tyRef (named 0) imm (pointee (Assoc₁.the-row .written)))) l₂)
-        ∷ ‵ (fat fullShare HeadEnd₁′.mir l₁ 0 (LL.val HeadEnd₁.the-type HeadEnd₁′.the-laws h)) ∷ ‵ (fdies HeadEnd₁′.mir l₁) ∷ ‵ (froom HeadEndOpening₁′.mir l₀ 0) ∷ ‵ (fdies HeadEndOpening₁′.mir l₀) ∷ []) (runs C Λ En mir′.t-2 (atRet En Post))
+    stage-2 : (tekno : TekNumber) (tekno-u : Val) (tekno-is : Is TekNumber₁.the-row tekno (tekno-u ∷ [])) (tekno-e : tekno ≡ record { 0 = number }) → Sq W (‵ Records′ ∷ ‵ (flft κ q) ∷ ‵ Write-key′ ∷ ‵ (flft μ p) ∷ ‵ Tek′ ∷ ‵ (flft κ₃ q₃) ∷ ‵ Vector′ ∷ ‵ (flft κ₄ q₄) ∷ ‵ Invalid′ ∷ ‵ (flft κ₅ q₅) ∷ ‵ (froom (sliceTy (tyRef erased mut (tyInt w8))) l₁₈ 0) ∷ ‵ (fdies (sliceTy (tyRef erased mut (tyInt w8))) l₁₈) ∷ ‵ (froom (tyRef erased mut (tyInt w8)) l₁₇ 0) ∷ ‵ (fdies (tyRef erased mut (tyInt w8)) l₁₇) ∷ ‵ (froom (sliceTy (tyRef erased mut (tyInt w8))) l₁₆ 0) ∷ ‵ (fdies (sliceTy (tyRef erased mut (tyInt w8))) l₁₆) ∷ ‵ (froom (tyRef erased mut (tyInt w8)) l₁₅ 0) ∷ ‵ (fdies (tyRef erased mut (tyInt w8)) l₁₅)
+        ∷ ‵ (froom (sliceTy (tyRef erased mut (tyInt w8))) l₁₄ 0) ∷ ‵ (fdies (sliceTy (tyRef erased mut (tyInt w8))) l₁₄) ∷ ‵ (froom (tyRef erased mut (tyInt w8)) l₁₃ 0) ∷ ‵ (fdies (tyRef erased mut (tyInt w8)) l₁₃) ∷ ‵ (froom OpenedCall₁′.mir l₁₂ 0) ∷ ‵ (fdies OpenedCall₁′.mir l₁₂) ∷ ‵ (fat fullShare TekNumber₁′.mir l₁₁ 0 tekno-u) ∷ ‵ (fdies TekNumber₁′.mir l₁₁)
+        ∷ ‵ (fat fullShare (sliceTy (tyRef (named 4) mut (tyInt w8))) l₁₀ 0 invalid-val) ∷ ‵ (fdies (sliceTy (tyRef (named 4) mut (tyInt w8))) l₁₀) ∷ ‵ (fat fullShare (sliceTy (tyRef (named 3) mut (tyInt w8))) l₉ 0 vector-val) ∷ ‵ (fdies (sliceTy (tyRef (named 3) mut (tyInt w8))) l₉) ∷ ‵ (fat fullShare (sliceTy (tyRef (named 2) mut (tyInt w8))) l₈ 0 tek-val) ∷ ‵ (fdies (sliceTy (tyRef (named 2) mut (tyInt w8))) l₈) ∷ ‵ (fat fullShare (sliceTy (tyRef (named 1) imm (tyInt w8))) l₇ 0 write-key-val) ∷ ‵ (fdies (sliceTy (tyRef (named 1) imm (tyInt w8))) l₇)
+        ∷ ‵ (fat fullShare (tyInt w8) l₆ 0 (vint w8 number)) ∷ ‵ (fdies (tyInt w8) l₆) ∷ ‵ (fat fullShare (tyInt w16) l₅ 0 (vint w16 said)) ∷ ‵ (fdies (tyInt w16) l₅) ∷ ‵ (fat fullShare (tyInt w64) l₄ 0 (vint w64 address)) ∷ ‵ (fdies (tyInt w64) l₄) ∷ ‵ (fat fullShare (tyInt w8) l₃ 0 (vint w8 direction)) ∷ ‵ (fdies (tyInt w8) l₃)
+        ∷ ‵ (fat fullShare (sliceTy (tyRef (named 0) imm (pointee (Assoc₁.the-row .written)))) l₂ 0 records-val) ∷ ‵ (fdies (sliceTy (tyRef (named 0) imm (pointee (Assoc₁.the-row .written)))) l₂) ∷ ‵ (fat fullShare HeadEnd₁′.mir l₁ 0 (LL.val HeadEnd₁.the-type HeadEnd₁′.the-laws h)) ∷ ‵ (fdies HeadEnd₁′.mir l₁) ∷ ‵ (froom HeadEndOpening₁′.mir l₀ 0) ∷ ‵ (fdies HeadEndOpening₁′.mir l₀) ∷ []) (runs C Λ En mir′.t-2 (atRet En Post))
     stage-2 tekno tekno-u tekno-is tekno-e =
-        assigns ! (addr ! (from ! (fld ! refl (hop ! (look-in ! 28 (sub ! 0 refl (whole !))) (stop !))))) (from ! (stop !)) (init ! 18 refl (tt, tt)) $
-        assigns ! (agg ! (and-then ! (load ! (from ! (stop !)) (look ! 18 refl)) (and-then ! (load ! (from ! (fld ! refl (stop !))) (look-in ! 28 (sub ! 1 refl (whole !)))) (no-more !)))) (from ! (stop !)) (init ! 16 refl (tt, (tt, (record { fits = tek-room .0 }, tt)))) $
-        assigns ! (addr ! (from ! (fld ! refl (hop ! (look-in ! 26 (sub ! 0 refl (whole !))) (stop !))))) (from ! (stop !)) (init ! 14 refl (tt, tt)) $
-        assigns ! (agg ! (and-then ! (load ! (from ! (stop !)) (look ! 14 refl)) (and-then ! (load ! (from ! (fld ! refl (stop !))) (look-in ! 26 (sub ! 1 refl (whole !)))) (no-more !)))) (from ! (stop !)) (init ! 12 refl (tt, (tt, (record { fits = vector-room .0 }, tt)))) $
-        assigns ! (addr ! (from ! (fld ! refl (hop ! (look-in ! 24 (sub ! 0 refl (whole !))) (stop !))))) (from ! (stop !)) (init ! 10 refl (tt, tt)) $
-        assigns ! (agg ! (and-then ! (load ! (from ! (stop !)) (look ! 10 refl)) (and-then ! (load ! (from ! (fld ! refl (stop !))) (look-in ! 24 (sub ! 1 refl (whole !)))) (no-more !)))) (from ! (stop !)) (init ! 8 refl (tt, (tt, (record { fits = invalid-room .0 }, tt)))) $
+        assigns ! (addr ! (from ! (fld ! refl (hop ! (look-in ! 30 (sub ! 0 refl (whole !))) (stop !))))) (from ! (stop !)) (init ! 20 refl (tt, tt)) $
+        assigns ! (agg ! (and-then ! (load ! (from ! (stop !)) (look ! 20 refl)) (and-then ! (load ! (from ! (fld ! refl (stop !))) (look-in ! 30 (sub ! 1 refl (whole !)))) (no-more !)))) (from ! (stop !)) (init ! 18 refl (tt, (tt, (record { fits = tek-room .0 }, tt)))) $
+        assigns ! (addr ! (from ! (fld ! refl (hop ! (look-in ! 28 (sub ! 0 refl (whole !))) (stop !))))) (from ! (stop !)) (init ! 16 refl (tt, tt)) $
+        assigns ! (agg ! (and-then ! (load ! (from ! (stop !)) (look ! 16 refl)) (and-then ! (load ! (from ! (fld ! refl (stop !))) (look-in ! 28 (sub ! 1 refl (whole !)))) (no-more !)))) (from ! (stop !)) (init ! 14 refl (tt, (tt, (record { fits = vector-room .0 }, tt)))) $
+        assigns ! (addr ! (from ! (fld ! refl (hop ! (look-in ! 26 (sub ! 0 refl (whole !))) (stop !))))) (from ! (stop !)) (init ! 12 refl (tt, tt)) $
+        assigns ! (agg ! (and-then ! (load ! (from ! (stop !)) (look ! 12 refl)) (and-then ! (load ! (from ! (fld ! refl (stop !))) (look-in ! 26 (sub ! 1 refl (whole !)))) (no-more !)))) (from ! (stop !)) (init ! 10 refl (tt, (tt, (record { fits = invalid-room .0 }, tt)))) $
         use1 W (‵ Records′ ⊛ ‵ Records′) (shr-slice-copy 𝓤 H A W (named 0) κ Assoc₁.the-row .twice records (records-val ∷ [])) $ split ! $
-        move ! (7 ∷ []) $
-        move ! (6 ∷ 0 ∷ []) $
+        move ! (3 ∷ []) $
+        use1 W (‵ Write-key′ ⊛ ‵ Write-key′) (shr-slice-copy 𝓤 H A W (named 1) μ u8 .twice write-key (write-key-val ∷ [])) $ split ! $
+        move ! (10 ∷ []) $
+        move ! (9 ∷ 0 ∷ []) $
         fjoin ! $
-        move ! (4 ∷ 0 ∷ []) $
+        move ! (7 ∷ 0 ∷ []) $
         fjoin ! $
         move ! (1 ∷ 0 ∷ []) $
         fjoin ! $
-        move ! (5 ∷ []) $
+        move ! (2 ∷ 0 ∷ []) $
+        fjoin ! $
+        move ! (7 ∷ []) $
+        move ! (7 ∷ 0 ∷ []) $
+        join ! $
+        move ! (6 ∷ 0 ∷ []) $
+        join ! $
         move ! (5 ∷ 0 ∷ []) $
         join ! $
         move ! (4 ∷ 0 ∷ []) $
         join ! $
-        move ! (3 ∷ 0 ∷ []) $
-        join ! $
         use2 W (raw (Openᶜ 𝓤 H A mem run .pre (to-open tekno tekno-u tekno-is))) (goes-open tekno tekno-u tekno-is) $
-        calls-at ! fm (Openᶜ 𝓤 H A mem run) known-open (to-open tekno tekno-u tekno-is) (and-then ! (load ! (from ! (stop !)) (look ! 34 refl)) (and-then ! (load ! (from ! (stop !)) (look ! 32 refl)) (and-then ! (load ! (from ! (stop !)) (look ! 30 refl)) (and-then ! (load ! (from ! (stop !)) (look ! 28 refl)) (and-then ! (load ! (from ! (stop !)) (look ! 26 refl)) (and-then ! (load ! (from ! (stop !)) (look ! 16 refl)) (and-then ! (load ! (from ! (stop !)) (look ! 10 refl)) (and-then ! (load ! (from ! (stop !)) (look ! 6 refl)) (and-then ! (load ! (from ! (stop !)) (look ! 2 refl)) (no-more !)))))))))) (λ got-u.
-        use1 W (later (some (λ (got : OpenedCall). ((‵ (flft κ q) ⊛ (‵ (flft μ p) ⊛ (‵ (flft κ₃ q₃) ⊛ (‵ (flft κ₄ q₄) ⊛ ‵ ftrue)))) ⊛ ‵ (OpenedCall₁.the-row .own got (got-u ∷ []))) ⊛ raw (ensured 𝓤 H A open′.ended (open′.clauses 𝓤 H A mem run) (κ, (μ, (κ₃, (κ₄, tt)))) (open-args tekno tekno-u tekno-is) tt got)))) (id⊢ 𝓤 _) $ await ! tt $ pick ! (λ got.
-        split ! $ move ! (1 ∷ []) $ use1 W (some (λ (zs : Unit {0} × (Unit {0} × (Unit {0} × (Unit {0} × (Unit {0} × (Unit {0} × (List ℕ × (List ℕ × (List ℕ × Unit {0}))))))))). ‵ (lasts open′.ended (κ, (μ, (κ₃, (κ₄, tt)))) (open-args tekno tekno-u tekno-is) zs) ⊛ raw (fact 𝓤 (Given-back tekno tekno-u tekno-is got (zs .1 .1 .1 .1 .1 .1 .0) (zs .1 .1 .1 .1 .1 .1 .1 .0) (zs .1 .1 .1 .1 .1 .1 .1 .1 .0))))) (id⊢ 𝓤 _) $ pick ! (λ zs.
-        split ! $ move ! (1 ∷ []) $ heard ! (Given-back tekno tekno-u tekno-is got (zs .1 .1 .1 .1 .1 .1 .0) (zs .1 .1 .1 .1 .1 .1 .1 .0) (zs .1 .1 .1 .1 .1 .1 .1 .1 .0)) (λ right.
+        calls-at ! fm (Openᶜ 𝓤 H A mem run) known-open (to-open tekno tekno-u tekno-is) (and-then ! (load ! (from ! (stop !)) (look ! 37 refl)) (and-then ! (load ! (from ! (stop !)) (look ! 35 refl)) (and-then ! (load ! (from ! (stop !)) (look ! 33 refl)) (and-then ! (load ! (from ! (stop !)) (look ! 31 refl)) (and-then ! (load ! (from ! (stop !)) (look ! 29 refl)) (and-then ! (load ! (from ! (stop !)) (look ! 17 refl)) (and-then ! (load ! (from ! (stop !)) (look ! 25 refl)) (and-then ! (load ! (from ! (stop !)) (look ! 11 refl)) (and-then ! (load ! (from ! (stop !)) (look ! 7 refl)) (and-then ! (load ! (from ! (stop !)) (look ! 3 refl)) (no-more !))))))))))) (λ got-u.
+        use1 W (later (some (λ (got : OpenedCall). ((‵ (flft κ q) ⊛ (‵ (flft μ p) ⊛ (‵ (flft κ₃ q₃) ⊛ (‵ (flft κ₄ q₄) ⊛ (‵ (flft κ₅ q₅) ⊛ ‵ ftrue))))) ⊛ ‵ (OpenedCall₁.the-row .own got (got-u ∷ []))) ⊛ raw (ensured 𝓤 H A open′.ended (open′.clauses 𝓤 H A mem run) (κ, (μ, (κ₃, (κ₄, (κ₅, tt))))) (open-args tekno tekno-u tekno-is) tt got)))) (id⊢ 𝓤 _) $ await ! tt $ pick ! (λ got.
+        split ! $ move ! (1 ∷ []) $ use1 W (some (λ (zs : Unit {0} × (Unit {0} × (Unit {0} × (Unit {0} × (Unit {0} × (Unit {0} × (Unit {0} × (List ℕ × (List ℕ × (List ℕ × Unit {0})))))))))). ‵ (lasts open′.ended (κ, (μ, (κ₃, (κ₄, (κ₅, tt))))) (open-args tekno tekno-u tekno-is) zs) ⊛ raw (fact 𝓤 (Given-back tekno tekno-u tekno-is got (zs .1 .1 .1 .1 .1 .1 .1 .0) (zs .1 .1 .1 .1 .1 .1 .1 .1 .0) (zs .1 .1 .1 .1 .1 .1 .1 .1 .1 .0))))) (id⊢ 𝓤 _) $ pick ! (λ zs.
+        split ! $ move ! (1 ∷ []) $ heard ! (Given-back tekno tekno-u tekno-is got (zs .1 .1 .1 .1 .1 .1 .1 .0) (zs .1 .1 .1 .1 .1 .1 .1 .1 .0) (zs .1 .1 .1 .1 .1 .1 .1 .1 .1 .0)) (λ right.
+        fsplit ! $
+        move ! (1 ∷ []) $
         fsplit ! $
         move ! (1 ∷ []) $
         fsplit ! $
@@ -238,7 +252,7 @@ module _ {M : Type 1} (𝓤 : URA M) (H : Heap 𝓤) (A : Atoms 𝓤) (W : Given
         move ! (1 ∷ []) $
         fsplit ! $
         fsplit ! $ move ! (1 ∷ []) $ feqL ! (λ same-invalid.
-        move ! (10 ∷ []) $
+        move ! (11 ∷ []) $
         split ! $ move ! (1 ∷ []) $ facts ! OpenedCall₁.the-row (Is OpenedCall₁.the-row) (shows 𝓤 H A OpenedCall₁.the-row) got (got-u ∷ []) (λ got-is.
         split ! $
         move ! (1 ∷ []) $
@@ -247,90 +261,94 @@ module _ {M : Type 1} (𝓤 : URA M) (H : Heap 𝓤) (A : Atoms 𝓤) (W : Given
         split ! $
         move ! (1 ∷ []) $
         split ! $
-        land ! (from ! (stop !)) (init ! 28 refl (LL.lawful OpenedCall₁.the-type OpenedCall₁′.the-laws 𝓤 H A W .typed got _ got-is .0)) $
+        move ! (1 ∷ []) $
+        split ! $
+        land ! (from ! (stop !)) (init ! 31 refl (LL.lawful OpenedCall₁.the-type OpenedCall₁′.the-laws 𝓤 H A W .typed got _ got-is .0)) $
         use0 W (raw (HeadendOpeningᶜ 𝓤 H A mem run .pre (to-headend-opening-last got got-u got-is))) (goes-headend-opening-last got got-u got-is) $
-        calls-at ! fm (HeadendOpeningᶜ 𝓤 H A mem run) known-headend-opening (to-headend-opening-last got got-u got-is) (and-then ! (load ! (from ! (stop !)) (look ! 29 refl)) (no-more !)) (λ w.
+        calls-at ! fm (HeadendOpeningᶜ 𝓤 H A mem run) known-headend-opening (to-headend-opening-last got got-u got-is) (and-then ! (load ! (from ! (stop !)) (look ! 32 refl)) (no-more !)) (λ w.
         use1 W (later (some (λ (r : HeadEndOpening). (‵ ftrue ⊛ ‵ (HeadEndOpening₁.the-row .own r (w ∷ []))) ⊛ raw (ensured 𝓤 H A headend-opening′.ended (headend-opening′.clauses 𝓤 H A mem run) tt (headend-opening-last-args got got-u got-is) tt r)))) (id⊢ 𝓤 _) $ await ! tt $ pick ! (λ r.
         split ! $ move ! (1 ∷ []) $ use1 W (raw (fact 𝓤 (r ≡ headEndOpening got))) (said-headend-opening-last got got-u got-is r) $ heard ! (r ≡ headEndOpening got) (λ r-said. split ! $
         drop ! $ facts ! HeadEndOpening₁.the-row (Is HeadEndOpening₁.the-row) (shows 𝓤 H A HeadEndOpening₁.the-row) r (w ∷ []) (λ is.
-        land ! (from ! (stop !)) (init ! 50 refl (LL.lawful HeadEndOpening₁.the-type HeadEndOpening₁′.the-laws 𝓤 H A W .typed r _ is .0)) $
-        returns ! (look ! 50 refl) $
-        forget ! 16 refl $
-        forget ! 18 refl $
-        forget ! 20 refl $
-        forget ! 22 refl $
-        forget ! 24 refl $
-        forget ! 26 refl $
-        forget ! 28 refl $
-        forget ! 30 refl $
-        forget ! 32 refl $
-        forget ! 34 refl $
-        forget ! 36 refl $
-        forget ! 38 refl $
-        forget ! 40 refl $
-        forget ! 42 refl $
-        forget ! 44 refl $
-        forget ! 46 refl $
-        forget ! 48 refl $
-        forget ! 50 refl $
-        move ! (50 ∷ 51 ∷ []) $ free1 ! $
-        move ! (48 ∷ 49 ∷ []) $ free1 ! $
-        move ! (46 ∷ 47 ∷ []) $ free1 ! $
-        move ! (44 ∷ 45 ∷ []) $ free1 ! $
-        move ! (42 ∷ 43 ∷ []) $ free1 ! $
-        move ! (40 ∷ 41 ∷ []) $ free1 ! $
-        move ! (38 ∷ 39 ∷ []) $ free1 ! $
-        move ! (36 ∷ 37 ∷ []) $ free1 ! $
-        move ! (34 ∷ 35 ∷ []) $ free1 ! $
-        move ! (32 ∷ 33 ∷ []) $ free1 ! $
-        move ! (30 ∷ 31 ∷ []) $ free1 ! $
-        move ! (28 ∷ 29 ∷ []) $ free1 ! $
-        move ! (26 ∷ 27 ∷ []) $ free1 ! $
-        move ! (24 ∷ 25 ∷ []) $ free1 ! $
-        move ! (22 ∷ 23 ∷ []) $ free1 ! $
-        move ! (20 ∷ 21 ∷ []) $ free1 ! $
-        move ! (18 ∷ 19 ∷ []) $ free1 ! $
-        move ! (16 ∷ 17 ∷ []) $ free1 ! $
+        land ! (from ! (stop !)) (init ! 55 refl (LL.lawful HeadEndOpening₁.the-type HeadEndOpening₁′.the-laws 𝓤 H A W .typed r _ is .0)) $
+        returns ! (look ! 55 refl) $
+        forget ! 19 refl $
+        forget ! 21 refl $
+        forget ! 23 refl $
+        forget ! 25 refl $
+        forget ! 27 refl $
+        forget ! 29 refl $
+        forget ! 31 refl $
+        forget ! 33 refl $
+        forget ! 35 refl $
+        forget ! 37 refl $
+        forget ! 39 refl $
+        forget ! 41 refl $
+        forget ! 43 refl $
+        forget ! 45 refl $
+        forget ! 47 refl $
+        forget ! 49 refl $
+        forget ! 51 refl $
+        forget ! 53 refl $
+        forget ! 55 refl $
+        move ! (55 ∷ 56 ∷ []) $ free1 ! $
+        move ! (53 ∷ 54 ∷ []) $ free1 ! $
+        move ! (51 ∷ 52 ∷ []) $ free1 ! $
+        move ! (49 ∷ 50 ∷ []) $ free1 ! $
+        move ! (47 ∷ 48 ∷ []) $ free1 ! $
+        move ! (45 ∷ 46 ∷ []) $ free1 ! $
+        move ! (43 ∷ 44 ∷ []) $ free1 ! $
+        move ! (41 ∷ 42 ∷ []) $ free1 ! $
+        move ! (39 ∷ 40 ∷ []) $ free1 ! $
+        move ! (37 ∷ 38 ∷ []) $ free1 ! $
+        move ! (35 ∷ 36 ∷ []) $ free1 ! $
+        move ! (33 ∷ 34 ∷ []) $ free1 ! $
+        move ! (31 ∷ 32 ∷ []) $ free1 ! $
+        move ! (29 ∷ 30 ∷ []) $ free1 ! $
+        move ! (27 ∷ 28 ∷ []) $ free1 ! $
+        move ! (25 ∷ 26 ∷ []) $ free1 ! $
+        move ! (23 ∷ 24 ∷ []) $ free1 ! $
+        move ! (21 ∷ 22 ∷ []) $ free1 ! $
+        move ! (19 ∷ 20 ∷ []) $ free1 ! $
         free0 ! $
-        keep ! (15 ∷ 4 ∷ 8 ∷ 3 ∷ 7 ∷ 2 ∷ 5 ∷ 0 ∷ []) $
-        by ! (exits r w (zs .1 .1 .1 .1 .1 .1 .0) (zs .1 .1 .1 .1 .1 .1 .1 .0) (zs .1 .1 .1 .1 .1 .1 .1 .1 .0) is same-tek same-vector same-invalid (r-said ∙ ap (λ (z : OpenedCall). headEndOpening z) (right .0 ∙ ap (λ (z : TekNumber). openCalled (openOf h (records .now) direction address said z (length (tek .now)) (length (vector .now)) (length (invalid .now)))) tekno-e), right .1 ∙ ap (λ (z : TekNumber). overlay (tek .now) ((openOf h (records .now) direction address said z (length (tek .now)) (length (vector .now)) (length (invalid .now))) .out .tek)) tekno-e, right .2 ∙ ap (λ (z : TekNumber). overlay (vector .now) ((openOf h (records .now) direction address said z (length (tek .now)) (length (vector .now)) (length (invalid .now))) .out .vector)) tekno-e, right .3 ∙ ap (λ (z : TekNumber). overlay (invalid .now) ((openOf h (records .now) direction address said z (length (tek .now)) (length (vector .now)) (length (invalid .now))) .invalid)) tekno-e))))))))))))))
+        keep ! (18 ∷ 5 ∷ 17 ∷ 4 ∷ 9 ∷ 3 ∷ 8 ∷ 2 ∷ 6 ∷ 0 ∷ []) $
+        by ! (exits r w (zs .1 .1 .1 .1 .1 .1 .1 .0) (zs .1 .1 .1 .1 .1 .1 .1 .1 .0) (zs .1 .1 .1 .1 .1 .1 .1 .1 .1 .0) is same-tek same-vector same-invalid (r-said ∙ ap (λ (z : OpenedCall). headEndOpening z) (right .0 ∙ ap (λ (z : TekNumber). openCalled (openOf h (records .now) direction address said z (write-key .now) (length (tek .now)) (length (vector .now)) (length (invalid .now)))) tekno-e), right .1 ∙ ap (λ (z : TekNumber). overlay (tek .now) ((openOf h (records .now) direction address said z (write-key .now) (length (tek .now)) (length (vector .now)) (length (invalid .now))) .out .tek)) tekno-e, right .2 ∙ ap (λ (z : TekNumber). overlay (vector .now) ((openOf h (records .now) direction address said z (write-key .now) (length (tek .now)) (length (vector .now)) (length (invalid .now))) .out .vector)) tekno-e, right .3 ∙ ap (λ (z : TekNumber). overlay (invalid .now) ((openOf h (records .now) direction address said z (write-key .now) (length (tek .now)) (length (vector .now)) (length (invalid .now))) .invalid)) tekno-e))))))))))))))
 
-    stage-1 : Sq W (‵ Records′ ∷ ‵ (flft κ q) ∷ ‵ Tek′ ∷ ‵ (flft μ p) ∷ ‵ Vector′ ∷ ‵ (flft κ₃ q₃) ∷ ‵ Invalid′ ∷ ‵ (flft κ₄ q₄) ∷ ‵ (froom (sliceTy (tyRef erased mut (tyInt w8))) l₁₇ 0) ∷ ‵ (fdies (sliceTy (tyRef erased mut (tyInt w8))) l₁₇) ∷ ‵ (froom (tyRef erased mut (tyInt w8)) l₁₆ 0) ∷ ‵ (fdies (tyRef erased mut (tyInt w8)) l₁₆) ∷ ‵ (froom (sliceTy (tyRef erased mut (tyInt w8))) l₁₅ 0) ∷ ‵ (fdies (sliceTy (tyRef erased mut (tyInt w8))) l₁₅) ∷ ‵ (froom (tyRef erased mut (tyInt w8)) l₁₄ 0) ∷ ‵ (fdies (tyRef erased mut (tyInt w8)) l₁₄)
-        ∷ ‵ (froom (sliceTy (tyRef erased mut (tyInt w8))) l₁₃ 0) ∷ ‵ (fdies (sliceTy (tyRef erased mut (tyInt w8))) l₁₃) ∷ ‵ (froom (tyRef erased mut (tyInt w8)) l₁₂ 0) ∷ ‵ (fdies (tyRef erased mut (tyInt w8)) l₁₂) ∷ ‵ (froom OpenedCall₁′.mir l₁₁ 0) ∷ ‵ (fdies OpenedCall₁′.mir l₁₁) ∷ ‵ (froom TekNumber₁′.mir l₁₀ 0) ∷ ‵ (fdies TekNumber₁′.mir l₁₀)
-        ∷ ‵ (fat fullShare (sliceTy (tyRef (named 3) mut (tyInt w8))) l₉ 0 invalid-val) ∷ ‵ (fdies (sliceTy (tyRef (named 3) mut (tyInt w8))) l₉) ∷ ‵ (fat fullShare (sliceTy (tyRef (named 2) mut (tyInt w8))) l₈ 0 vector-val) ∷ ‵ (fdies (sliceTy (tyRef (named 2) mut (tyInt w8))) l₈) ∷ ‵ (fat fullShare (sliceTy (tyRef (named 1) mut (tyInt w8))) l₇ 0 tek-val) ∷ ‵ (fdies (sliceTy (tyRef (named 1) mut (tyInt w8))) l₇) ∷ ‵ (fat fullShare (tyInt w8) l₆ 0 (vint w8 number)) ∷ ‵ (fdies (tyInt w8) l₆)
-        ∷ ‵ (fat fullShare (tyInt w16) l₅ 0 (vint w16 said)) ∷ ‵ (fdies (tyInt w16) l₅) ∷ ‵ (fat fullShare (tyInt w64) l₄ 0 (vint w64 address)) ∷ ‵ (fdies (tyInt w64) l₄) ∷ ‵ (fat fullShare (tyInt w8) l₃ 0 (vint w8 direction)) ∷ ‵ (fdies (tyInt w8) l₃) ∷ ‵ (fat fullShare (sliceTy (tyRef (named 0) imm (pointee (Assoc₁.the-row .written)))) l₂ 0 records-val) ∷ ‵ (fdies (sliceTy (tyRef (named 0) imm (pointee (Assoc₁.the-row .written)))) l₂)
-        ∷ ‵ (fat fullShare HeadEnd₁′.mir l₁ 0 (LL.val HeadEnd₁.the-type HeadEnd₁′.the-laws h)) ∷ ‵ (fdies HeadEnd₁′.mir l₁) ∷ ‵ (froom HeadEndOpening₁′.mir l₀ 0) ∷ ‵ (fdies HeadEndOpening₁′.mir l₀) ∷ []) (runs C Λ En mir′.t-1 (atRet En Post))
+    stage-1 : Sq W (‵ Records′ ∷ ‵ (flft κ q) ∷ ‵ Write-key′ ∷ ‵ (flft μ p) ∷ ‵ Tek′ ∷ ‵ (flft κ₃ q₃) ∷ ‵ Vector′ ∷ ‵ (flft κ₄ q₄) ∷ ‵ Invalid′ ∷ ‵ (flft κ₅ q₅) ∷ ‵ (froom (sliceTy (tyRef erased mut (tyInt w8))) l₁₈ 0) ∷ ‵ (fdies (sliceTy (tyRef erased mut (tyInt w8))) l₁₈) ∷ ‵ (froom (tyRef erased mut (tyInt w8)) l₁₇ 0) ∷ ‵ (fdies (tyRef erased mut (tyInt w8)) l₁₇) ∷ ‵ (froom (sliceTy (tyRef erased mut (tyInt w8))) l₁₆ 0) ∷ ‵ (fdies (sliceTy (tyRef erased mut (tyInt w8))) l₁₆) ∷ ‵ (froom (tyRef erased mut (tyInt w8)) l₁₅ 0) ∷ ‵ (fdies (tyRef erased mut (tyInt w8)) l₁₅)
+        ∷ ‵ (froom (sliceTy (tyRef erased mut (tyInt w8))) l₁₄ 0) ∷ ‵ (fdies (sliceTy (tyRef erased mut (tyInt w8))) l₁₄) ∷ ‵ (froom (tyRef erased mut (tyInt w8)) l₁₃ 0) ∷ ‵ (fdies (tyRef erased mut (tyInt w8)) l₁₃) ∷ ‵ (froom OpenedCall₁′.mir l₁₂ 0) ∷ ‵ (fdies OpenedCall₁′.mir l₁₂) ∷ ‵ (froom TekNumber₁′.mir l₁₁ 0) ∷ ‵ (fdies TekNumber₁′.mir l₁₁)
+        ∷ ‵ (fat fullShare (sliceTy (tyRef (named 4) mut (tyInt w8))) l₁₀ 0 invalid-val) ∷ ‵ (fdies (sliceTy (tyRef (named 4) mut (tyInt w8))) l₁₀) ∷ ‵ (fat fullShare (sliceTy (tyRef (named 3) mut (tyInt w8))) l₉ 0 vector-val) ∷ ‵ (fdies (sliceTy (tyRef (named 3) mut (tyInt w8))) l₉) ∷ ‵ (fat fullShare (sliceTy (tyRef (named 2) mut (tyInt w8))) l₈ 0 tek-val) ∷ ‵ (fdies (sliceTy (tyRef (named 2) mut (tyInt w8))) l₈) ∷ ‵ (fat fullShare (sliceTy (tyRef (named 1) imm (tyInt w8))) l₇ 0 write-key-val) ∷ ‵ (fdies (sliceTy (tyRef (named 1) imm (tyInt w8))) l₇)
+        ∷ ‵ (fat fullShare (tyInt w8) l₆ 0 (vint w8 number)) ∷ ‵ (fdies (tyInt w8) l₆) ∷ ‵ (fat fullShare (tyInt w16) l₅ 0 (vint w16 said)) ∷ ‵ (fdies (tyInt w16) l₅) ∷ ‵ (fat fullShare (tyInt w64) l₄ 0 (vint w64 address)) ∷ ‵ (fdies (tyInt w64) l₄) ∷ ‵ (fat fullShare (tyInt w8) l₃ 0 (vint w8 direction)) ∷ ‵ (fdies (tyInt w8) l₃)
+        ∷ ‵ (fat fullShare (sliceTy (tyRef (named 0) imm (pointee (Assoc₁.the-row .written)))) l₂ 0 records-val) ∷ ‵ (fdies (sliceTy (tyRef (named 0) imm (pointee (Assoc₁.the-row .written)))) l₂) ∷ ‵ (fat fullShare HeadEnd₁′.mir l₁ 0 (LL.val HeadEnd₁.the-type HeadEnd₁′.the-laws h)) ∷ ‵ (fdies HeadEnd₁′.mir l₁) ∷ ‵ (froom HeadEndOpening₁′.mir l₀ 0) ∷ ‵ (fdies HeadEndOpening₁′.mir l₀) ∷ []) (runs C Λ En mir′.t-1 (atRet En Post))
     stage-1 =
         use0 W (raw (TekNumberᶜ 𝓤 H A mem run .pre to-tek-number-1)) goes-tek-number-1 $
-        calls-at ! fm (TekNumberᶜ 𝓤 H A mem run) known-tek-number to-tek-number-1 (and-then ! (load ! (from ! (stop !)) (look ! 31 refl)) (no-more !)) (λ tekno-u.
+        calls-at ! fm (TekNumberᶜ 𝓤 H A mem run) known-tek-number to-tek-number-1 (and-then ! (load ! (from ! (stop !)) (look ! 35 refl)) (no-more !)) (λ tekno-u.
         use1 W (later (some (λ (tekno : TekNumber). (‵ ftrue ⊛ ‵ (TekNumber₁.the-row .own tekno (tekno-u ∷ []))) ⊛ raw (ensured 𝓤 H A tek-number′.ended (tek-number′.clauses 𝓤 H A mem run) tt tek-number-1-args tt tekno)))) (id⊢ 𝓤 _) $ await ! tt $ pick ! (λ tekno.
         split ! $ move ! (1 ∷ []) $ use1 W (raw (fact 𝓤 (tekno ≡ record { 0 = number }))) (said-tek-number-1 tekno) $ heard ! (tekno ≡ record { 0 = number }) (λ tekno-said. split ! $
         drop ! $
         facts ! TekNumber₁.the-row (Is TekNumber₁.the-row) (shows 𝓤 H A TekNumber₁.the-row) tekno (tekno-u ∷ []) (λ tekno-is.
-        land ! (from ! (stop !)) (init ! 22 refl (LL.lawful TekNumber₁.the-type TekNumber₁′.the-laws 𝓤 H A W .typed tekno _ tekno-is .0)) $
+        land ! (from ! (stop !)) (init ! 24 refl (LL.lawful TekNumber₁.the-type TekNumber₁′.the-laws 𝓤 H A W .typed tekno _ tekno-is .0)) $
         stage-2 tekno tekno-u tekno-is (tekno-said)))))
 
   module _ (C : Calls 𝓤 H) (Λ : Loops 𝓤 H) (fm : FmC 𝓤 H (W .laws) C) (known-tek-number : Triple 𝓤 (C #curlewreel·headend-values·tek-number) (TekNumberᶜ 𝓤 H A mem run)) (known-open : Triple 𝓤 (C #headend-calls·frames·open) (Openᶜ 𝓤 H A mem run)) (known-headend-opening : Triple 𝓤 (C #curlewreel·headend-values·headend-opening) (HeadendOpeningᶜ 𝓤 H A mem run)) where
-    walk : ent 𝓤 (onEntry 𝓤 H A curlewreel-headend-open₀.signature (κ, (μ, (κ₃, (κ₄, tt)))) (q, (p, (q₃, (q₄, tt)))) a vals) (WpFn 𝓤 H C Λ code.function ((LL.val HeadEnd₁.the-type HeadEnd₁′.the-laws h) ∷ records-val ∷ (vint w8 direction) ∷ (vint w64 address) ∷ (vint w16 said) ∷ (vint w8 number) ∷ tek-val ∷ vector-val ∷ invalid-val ∷ []) Post)
+    walk : ent 𝓤 (onEntry 𝓤 H A curlewreel-headend-open₀.signature (κ, (μ, (κ₃, (κ₄, (κ₅, tt))))) (q, (p, (q₃, (q₄, (q₅, tt))))) a vals) (WpFn 𝓤 H C Λ code.function ((LL.val HeadEnd₁.the-type HeadEnd₁′.the-laws h) ∷ records-val ∷ (vint w8 direction) ∷ (vint w64 address) ∷ (vint w16 said) ∷ (vint w8 number) ∷ write-key-val ∷ tek-val ∷ vector-val ∷ invalid-val ∷ []) Post)
     walk =
-        qed W ((‵ (flft κ q) ⊛ (‵ (flft μ p) ⊛ (‵ (flft κ₃ q₃) ⊛ (‵ (flft κ₄ q₄) ⊛ ‵ ftrue)))) ∷ ‵ (owns (HeadEnd₁.the-row ∷ ShrSlice (named 0) κ Assoc₁.the-row ∷ u8 ∷ u64 ∷ u16 ∷ u8 ∷ MutSlice (named 1) μ u8 ∷ MutSlice (named 2) κ₃ u8 ∷ MutSlice (named 3) κ₄ u8 ∷ []) a vals) ∷ []) ∵ enter ! C Λ code.function ((LL.val HeadEnd₁.the-type HeadEnd₁′.the-laws h) ∷ records-val ∷ (vint w8 direction) ∷ (vint w64 address) ∷ (vint w16 said) ∷ (vint w8 number) ∷ tek-val ∷ vector-val ∷ invalid-val ∷ []) _ $
-        alloc1 ! (λ l₀. alloc1 ! (λ l₁. alloc1 ! (λ l₂. alloc1 ! (λ l₃. alloc1 ! (λ l₄. alloc1 ! (λ l₅. alloc1 ! (λ l₆. alloc1 ! (λ l₇. alloc1 ! (λ l₈. alloc1 ! (λ l₉. alloc1 ! (λ l₁₀. alloc1 ! (λ l₁₁. alloc1 ! (λ l₁₂. alloc1 ! (λ l₁₃. alloc1 ! (λ l₁₄. alloc1 ! (λ l₁₅. alloc1 ! (λ l₁₆. alloc1 ! (λ l₁₇. alloc0 ! $ params1 ! $
-        pass1 ! (init ! 32 refl (LL.lawful HeadEnd₁.the-type HeadEnd₁′.the-laws 𝓤 H A W .typed h _ h-is .0)) $ pass1 ! (init ! 30 refl (tt, (tt, (record { fits = records-room .0 }, tt)))) $ pass1 ! (init ! 28 refl (tt, record { fits = direction-fits })) $ pass1 ! (init ! 26 refl (tt, record { fits = address-fits })) $ pass1 ! (init ! 24 refl (tt, record { fits = said-fits })) $ pass1 ! (init ! 22 refl (tt, record { fits = number-fits })) $ pass1 ! (init ! 20 refl (tt, (tt, (record { fits = tek-room .0 }, tt)))) $ pass1 ! (init ! 18 refl (tt, (tt, (record { fits = vector-room .0 }, tt)))) $ pass1 ! (init ! 16 refl (tt, (tt, (record { fits = invalid-room .0 }, tt)))) $ pass0 ! $
-        move ! (37 ∷ []) $ fsplit ! $ move ! (1 ∷ []) $ fsplit ! $ move ! (1 ∷ []) $ fsplit ! $ move ! (1 ∷ []) $ fsplit ! $ move ! (1 ∷ []) $ fsplit ! $ move ! (1 ∷ []) $ fsplit ! $ move ! (1 ∷ []) $ fsplit ! $ move ! (1 ∷ []) $ fsplit ! $ move ! (1 ∷ []) $ fsplit ! $ move ! (46 ∷ []) $ split ! $ move ! (1 ∷ []) $ split ! $ move ! (1 ∷ []) $ split ! $ move ! (1 ∷ []) $ split ! $
-        keep ! (13 ∷ 4 ∷ 8 ∷ 3 ∷ 7 ∷ 2 ∷ 5 ∷ 0 ∷ 15 ∷ 16 ∷ 17 ∷ 18 ∷ 19 ∷ 20 ∷ 21 ∷ 22 ∷ 23 ∷ 24 ∷ 25 ∷ 26 ∷ 27 ∷ 28 ∷ 29 ∷ 30 ∷ 31 ∷ 32 ∷ 33 ∷ 34 ∷ 35 ∷ 36 ∷ 37 ∷ 38 ∷ 39 ∷ 40 ∷ 41 ∷ 42 ∷ 43 ∷ 44 ∷ 45 ∷ 46 ∷ 47 ∷ 48 ∷ 49 ∷ 50 ∷ []) $
-        stage-1 C Λ fm known-tek-number known-open known-headend-opening l₀ l₁ l₂ l₃ l₄ l₅ l₆ l₇ l₈ l₉ l₁₀ l₁₁ l₁₂ l₁₃ l₁₄ l₁₅ l₁₆ l₁₇))))))))))))))))))
+        qed W ((‵ (flft κ q) ⊛ (‵ (flft μ p) ⊛ (‵ (flft κ₃ q₃) ⊛ (‵ (flft κ₄ q₄) ⊛ (‵ (flft κ₅ q₅) ⊛ ‵ ftrue))))) ∷ ‵ (owns (HeadEnd₁.the-row ∷ ShrSlice (named 0) κ Assoc₁.the-row ∷ u8 ∷ u64 ∷ u16 ∷ u8 ∷ ShrSlice (named 1) μ u8 ∷ MutSlice (named 2) κ₃ u8 ∷ MutSlice (named 3) κ₄ u8 ∷ MutSlice (named 4) κ₅ u8 ∷ []) a vals) ∷ []) ∵ enter ! C Λ code.function ((LL.val HeadEnd₁.the-type HeadEnd₁′.the-laws h) ∷ records-val ∷ (vint w8 direction) ∷ (vint w64 address) ∷ (vint w16 said) ∷ (vint w8 number) ∷ write-key-val ∷ tek-val ∷ vector-val ∷ invalid-val ∷ []) _ $
+        alloc1 ! (λ l₀. alloc1 ! (λ l₁. alloc1 ! (λ l₂. alloc1 ! (λ l₃. alloc1 ! (λ l₄. alloc1 ! (λ l₅. alloc1 ! (λ l₆. alloc1 ! (λ l₇. alloc1 ! (λ l₈. alloc1 ! (λ l₉. alloc1 ! (λ l₁₀. alloc1 ! (λ l₁₁. alloc1 ! (λ l₁₂. alloc1 ! (λ l₁₃. alloc1 ! (λ l₁₄. alloc1 ! (λ l₁₅. alloc1 ! (λ l₁₆. alloc1 ! (λ l₁₇. alloc1 ! (λ l₁₈. alloc0 ! $ params1 ! $
+        pass1 ! (init ! 34 refl (LL.lawful HeadEnd₁.the-type HeadEnd₁′.the-laws 𝓤 H A W .typed h _ h-is .0)) $ pass1 ! (init ! 32 refl (tt, (tt, (record { fits = records-room .0 }, tt)))) $ pass1 ! (init ! 30 refl (tt, record { fits = direction-fits })) $ pass1 ! (init ! 28 refl (tt, record { fits = address-fits })) $ pass1 ! (init ! 26 refl (tt, record { fits = said-fits })) $ pass1 ! (init ! 24 refl (tt, record { fits = number-fits })) $ pass1 ! (init ! 22 refl (tt, (tt, (record { fits = write-key-room .0 }, tt)))) $ pass1 ! (init ! 20 refl (tt, (tt, (record { fits = tek-room .0 }, tt)))) $ pass1 ! (init ! 18 refl (tt, (tt, (record { fits = vector-room .0 }, tt)))) $ pass1 ! (init ! 16 refl (tt, (tt, (record { fits = invalid-room .0 }, tt)))) $ pass0 ! $
+        move ! (39 ∷ []) $ fsplit ! $ move ! (1 ∷ []) $ fsplit ! $ move ! (1 ∷ []) $ fsplit ! $ move ! (1 ∷ []) $ fsplit ! $ move ! (1 ∷ []) $ fsplit ! $ move ! (1 ∷ []) $ fsplit ! $ move ! (1 ∷ []) $ fsplit ! $ move ! (1 ∷ []) $ fsplit ! $ move ! (1 ∷ []) $ fsplit ! $ move ! (1 ∷ []) $ fsplit ! $ move ! (49 ∷ []) $ split ! $ move ! (1 ∷ []) $ split ! $ move ! (1 ∷ []) $ split ! $ move ! (1 ∷ []) $ split ! $ move ! (1 ∷ []) $ split ! $
+        keep ! (15 ∷ 5 ∷ 10 ∷ 4 ∷ 9 ∷ 3 ∷ 8 ∷ 2 ∷ 6 ∷ 0 ∷ 17 ∷ 18 ∷ 19 ∷ 20 ∷ 21 ∷ 22 ∷ 23 ∷ 24 ∷ 25 ∷ 26 ∷ 27 ∷ 28 ∷ 29 ∷ 30 ∷ 31 ∷ 32 ∷ 33 ∷ 34 ∷ 35 ∷ 36 ∷ 37 ∷ 38 ∷ 39 ∷ 40 ∷ 41 ∷ 42 ∷ 43 ∷ 44 ∷ 45 ∷ 46 ∷ 47 ∷ 48 ∷ 49 ∷ 50 ∷ 51 ∷ 52 ∷ 53 ∷ 54 ∷ []) $
+        stage-1 C Λ fm known-tek-number known-open known-headend-opening l₀ l₁ l₂ l₃ l₄ l₅ l₆ l₇ l₈ l₉ l₁₀ l₁₁ l₁₂ l₁₃ l₁₄ l₁₅ l₁₆ l₁₇ l₁₈)))))))))))))))))))
 
 module _ {M : Type 1} (𝓤 : URA M) (H : Heap 𝓤) (A : Atoms 𝓤) (W : Given 𝓤 H A) (mem : Memory → SProp 𝓤) (run : Routine → Fun 𝓤) where
   curlewreel-headend-open-walks : (C : Calls 𝓤 H) (Λ : Loops 𝓤 H) → FmC 𝓤 H (W .laws) C → Triple 𝓤 (C #curlewreel·headend-values·tek-number) (TekNumberᶜ 𝓤 H A mem run) → Triple 𝓤 (C #headend-calls·frames·open) (Openᶜ 𝓤 H A mem run) → Triple 𝓤 (C #curlewreel·headend-values·headend-opening) (HeadendOpeningᶜ 𝓤 H A mem run) → Walks 𝓤 H A curlewreel-headend-open₀.ended stayed (WpFn 𝓤 H C Λ code.function) (curlewreel-headend-open₀.clauses 𝓤 H A mem run)
   curlewreel-headend-open-walks C Λ fm known-tek-number known-open known-headend-opening = walked 𝓤 H A curlewreel-headend-open₀.ended stayed (curlewreel-headend-open₀.clauses 𝓤 H A mem run) (WpFn 𝓤 H C Λ code.function)
-      (λ κs. (LL.vals HeadEnd₁.the-type HeadEnd₁′.the-laws, (slice-vals, (uint-vals w8, (uint-vals w64, (uint-vals w16, (uint-vals w8, (slice-vals, (slice-vals, (slice-vals, tt)))))))))) (λ κs. (LL.tells HeadEnd₁.the-type HeadEnd₁′.the-laws, (shr-slice-tells (named 0) (κs .0) Assoc₁.the-row, (uint-tells w8, (uint-tells w64, (uint-tells w16, (uint-tells w8, (mut-slice-tells (named 1) (κs .1 .0) u8, (mut-slice-tells (named 2) (κs .1 .1 .0) u8, (mut-slice-tells (named 3) (κs .1 .1 .1 .0) u8, tt))))))))))
+      (λ κs. (LL.vals HeadEnd₁.the-type HeadEnd₁′.the-laws, (slice-vals, (uint-vals w8, (uint-vals w64, (uint-vals w16, (uint-vals w8, (slice-vals, (slice-vals, (slice-vals, (slice-vals, tt))))))))))) (λ κs. (LL.tells HeadEnd₁.the-type HeadEnd₁′.the-laws, (shr-slice-tells (named 0) (κs .0) Assoc₁.the-row, (uint-tells w8, (uint-tells w64, (uint-tells w16, (uint-tells w8, (shr-slice-tells (named 1) (κs .1 .0) u8, (mut-slice-tells (named 2) (κs .1 .1 .0) u8, (mut-slice-tells (named 3) (κs .1 .1 .1 .0) u8, (mut-slice-tells (named 4) (κs .1 .1 .1 .1 .0) u8, tt)))))))))))
       (λ κs qs bounds a g are. via 𝓤 _ (fst∗ 𝓤 _ (emp 𝓤))
-      (walk 𝓤 H A W mem run (κs .0) (κs .1 .0) (κs .1 .1 .0) (κs .1 .1 .1 .0) (qs .0) (qs .1 .0) (qs .1 .1 .0) (qs .1 .1 .1 .0) (a .0) (a .1 .0) (a .1 .1 .0) (a .1 .1 .1 .0) (a .1 .1 .1 .1 .0) (a .1 .1 .1 .1 .1 .0) (a .1 .1 .1 .1 .1 .1 .0) (a .1 .1 .1 .1 .1 .1 .1 .0) (a .1 .1 .1 .1 .1 .1 .1 .1 .0) (are .0) (are .1 .0 .0 .1) (are .1 .1 .0 .1) (are .1 .1 .1 .0 .1) (are .1 .1 .1 .1 .0 .1) (are .1 .1 .1 .1 .1 .0 .1) (are .1 .1 .1 .1 .1 .1 .0 .0 .1) (are .1 .1 .1 .1 .1 .1 .1 .0 .0 .1) (are .1 .1 .1 .1 .1 .1 .1 .1 .0 .0 .1) C Λ fm known-tek-number known-open known-headend-opening))
+      (walk 𝓤 H A W mem run (κs .0) (κs .1 .0) (κs .1 .1 .0) (κs .1 .1 .1 .0) (κs .1 .1 .1 .1 .0) (qs .0) (qs .1 .0) (qs .1 .1 .0) (qs .1 .1 .1 .0) (qs .1 .1 .1 .1 .0) (a .0) (a .1 .0) (a .1 .1 .0) (a .1 .1 .1 .0) (a .1 .1 .1 .1 .0) (a .1 .1 .1 .1 .1 .0) (a .1 .1 .1 .1 .1 .1 .0) (a .1 .1 .1 .1 .1 .1 .1 .0) (a .1 .1 .1 .1 .1 .1 .1 .1 .0) (a .1 .1 .1 .1 .1 .1 .1 .1 .1 .0) (are .0) (are .1 .0 .0 .1) (are .1 .1 .0 .1) (are .1 .1 .1 .0 .1) (are .1 .1 .1 .1 .0 .1) (are .1 .1 .1 .1 .1 .0 .1) (are .1 .1 .1 .1 .1 .1 .0 .0 .1) (are .1 .1 .1 .1 .1 .1 .1 .0 .0 .1) (are .1 .1 .1 .1 .1 .1 .1 .1 .0 .0 .1) (are .1 .1 .1 .1 .1 .1 .1 .1 .1 .0 .0 .1) C Λ fm known-tek-number known-open known-headend-opening))
 
 curlewreel-headend-open-meets : {M : Type 1} (𝓤 : URA M) (H : Heap 𝓤) (A : Atoms 𝓤) → Given 𝓤 H A → (mem : Memory → SProp 𝓤) (run : Routine → Fun 𝓤) (𝓣 : Tables 𝓤 H) → Triple 𝓤 (𝓣 .C #curlewreel·headend-values·tek-number) (TekNumberᶜ 𝓤 H A mem run) → Triple 𝓤 (𝓣 .C #headend-calls·frames·open) (Openᶜ 𝓤 H A mem run) → Triple 𝓤 (𝓣 .C #curlewreel·headend-values·headend-opening) (HeadendOpeningᶜ 𝓤 H A mem run)
     → Meets 𝓤 H A curlewreel-headend-open₀.signature (WpFn 𝓤 H (𝓣 .C) (𝓣 .Λ) code.function) (curlewreel-headend-open₀.spec 𝓤 H A mem run)
 curlewreel-headend-open-meets 𝓤 H A W mem run 𝓣 known-tek-number known-open known-headend-opening =
-    walk-meets 𝓤 H A curlewreel-headend-open₀.ended stayed W (goes-none 𝓤 H A W 4 (λ _. HeadEnd₁.the-row) yes (λ κs x f. refl), (goes-none-slice 𝓤 H A W 4 (0 ∷ []) tt (plain (λ _. Assoc₁.the-row)) yes, (goes-none 𝓤 H A W 4 (λ _. u8) yes (λ κs x f. refl), (goes-none 𝓤 H A W 4 (λ _. u64) yes (λ κs x f. refl), (goes-none 𝓤 H A W 4 (λ _. u16) yes (λ κs x f. refl), (goes-none 𝓤 H A W 4 (λ _. u8) yes (λ κs x f. refl), (goes-gave-slice 𝓤 H A W 4 1 tt (plain (λ _. u8)), (goes-gave-slice 𝓤 H A W 4 2 tt (plain (λ _. u8)), (goes-gave-slice 𝓤 H A W 4 3 tt (plain (λ _. u8)), tt))))))))) (curlewreel-headend-open₀.clauses 𝓤 H A mem run)
+    walk-meets 𝓤 H A curlewreel-headend-open₀.ended stayed W (goes-none 𝓤 H A W 5 (λ _. HeadEnd₁.the-row) yes (λ κs x f. refl), (goes-none-slice 𝓤 H A W 5 (0 ∷ []) tt (plain (λ _. Assoc₁.the-row)) yes, (goes-none 𝓤 H A W 5 (λ _. u8) yes (λ κs x f. refl), (goes-none 𝓤 H A W 5 (λ _. u64) yes (λ κs x f. refl), (goes-none 𝓤 H A W 5 (λ _. u16) yes (λ κs x f. refl), (goes-none 𝓤 H A W 5 (λ _. u8) yes (λ κs x f. refl), (goes-none-slice 𝓤 H A W 5 (1 ∷ []) tt (plain (λ _. u8)) yes, (goes-gave-slice 𝓤 H A W 5 2 tt (plain (λ _. u8)), (goes-gave-slice 𝓤 H A W 5 3 tt (plain (λ _. u8)), (goes-gave-slice 𝓤 H A W 5 4 tt (plain (λ _. u8)), tt)))))))))) (curlewreel-headend-open₀.clauses 𝓤 H A mem run)
     (WpFn 𝓤 H (𝓣 .C) (𝓣 .Λ) code.function) (WpFn-mono 𝓤 H (W .laws) 𝓣 code.function) (curlewreel-headend-open-walks 𝓤 H A W mem run (𝓣 .C) (𝓣 .Λ) (fmOf 𝓤 H (W .laws) 𝓣) known-tek-number known-open known-headend-opening)
 
 pub curlewreel-headend-open-spec : {M : Type 1} → stated.statement M

@@ -19,10 +19,10 @@ entry-of-requires c κs = search needs
 
 returns : tie.Need-returns
 returns c =
-    let x = c .before .before .before .before .before .before .before .args in
+    let x = c .before .before .before .before .before .before .before .before .args in
     let k = c .before .before .before .before .before .entry-of in
     let past : k .result .entry .keys .newer ≤ x .h .clock = omega (arith, c .if1 .taken) in
-    let none = sym (none-invalid (x .h) (k .result) _ (k .ensures) (x .said) past) in
+    let none = sym (none-invalid (x .h) (k .result) _ (k .ensures) (x .said) (x .write-key .now) past) in
     (ap (λ (o : List ℕ). length o) none, ap (overlay (x .out .now)) none)
 
 newest-requires : tie.Need-newest-requires
@@ -34,26 +34,26 @@ error-answer-requires c κs = search needs
 array-share-prefix-none : tie.Need-array-share-prefix-none
 array-share-prefix-none c = search needs
 
-slice-aggregate-key : tie.Need-slice-aggregate-key
-slice-aggregate-key c = search needs
+slice-aggregate-auth : tie.Need-slice-aggregate-auth
+slice-aggregate-auth c = search needs
 
 put-answer-requires : tie.Need-put-answer-requires
 put-answer-requires c κs =
-    let x = c .before .before .before .before .before .before .before .before .before .before .before .args in
+    let x = c .before .before .before .before .before .before .before .before .before .before .before .before .args in
     let k = c .before .before .before .before .before .before .before .before .before .entry-of .result in
     let same = c .before .before .error-answer .ensures ∙ ap (λ (n : AkNumber). errorAnswer 11 0 n (x .said) 4) (c .before .before .before .newest .ensures) in
-    subst (λ (f : Fields). Writable f [] (length (x .out .now))) (sym same) (tek-invalid-writable k (x .said) (length (x .out .now)) (c .before .before .before .before .before .before .before .before .before .before .before .pre .0) (c .before .before .before .before .before .before .before .before .before .before .before .pre .1))
+    subst (λ (f : Fields). Writable f [] (x .write-key .now) (length (x .out .now))) (sym same) (tek-invalid-writable k (x .said) (x .write-key .now) (length (x .out .now)) (c .before .before .before .before .before .before .before .before .before .before .before .before .pre .0) (c .before .before .before .before .before .before .before .before .before .before .before .before .pre .1) (c .before .before .before .before .before .before .before .before .before .before .before .before .pre .2))
 
 same-length : tie.Need-same-length
 same-length c = search needs
 
 returns-2 : tie.Need-returns-2
 returns-2 c =
-    let x = c .before .before .before .before .before .before .before .before .before .before .before .before .before .before .args in
+    let x = c .before .before .before .before .before .before .before .before .before .before .before .before .before .before .before .args in
     let k = c .before .before .before .before .before .before .before .before .before .before .before .before .entry-of in
     let same = c .before .before .before .before .before .error-answer .ensures ∙ ap (λ (n : AkNumber). errorAnswer 11 0 n (x .said) 4) (c .before .before .before .before .before .before .newest .ensures) in
     let on : x .h .clock < k .result .entry .keys .newer = omega (arith, c .before .before .before .before .before .before .before .if1 .left) in
-    let all = one-invalid (x .h) (k .result) _ (k .ensures) (x .said) on _ same in
+    let all = one-invalid (x .h) (k .result) _ (k .ensures) (x .said) (x .write-key .now) on _ same in
     (c .before .before .put-answer .ensures .0 ∙ ap (λ (o : List ℕ). length o) all, c .before .before .put-answer .ensures .1 ∙ ap (overlay (x .out .now)) all)
 
 pub put-invalid-spec : {M : Type 1} → statement M
@@ -65,7 +65,7 @@ put-invalid-spec =
     newest-requires
     error-answer-requires
     array-share-prefix-none
-    slice-aggregate-key
+    slice-aggregate-auth
     put-answer-requires
     same-length
     returns-2)

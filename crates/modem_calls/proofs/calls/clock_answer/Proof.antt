@@ -7,6 +7,9 @@ use Rattle.modem_calls.proofs.calls.clock_answer.Tie as tie
 ask-requires : tie.Need-ask-requires
 ask-requires c κs = search needs
 
+message-key-fits-requires : tie.Need-message-key-fits-requires
+message-key-fits-requires c κs = search needs
+
 ask-requires-2 : tie.Need-ask-requires-2
 ask-requires-2 c κs = search needs
 
@@ -18,7 +21,15 @@ ask-requires-3 c κs = search needs
 
 returns : tie.Need-returns
 unfolding clockFits
-returns c = simp (c .ask3 .ensures, c .before .modem-fits .ensures, c .before .before .ask2 .ensures, c .before .before .before .ask .ensures)
+returns c = simp (c .ask3 .ensures, c .before .modem-fits .ensures, c .before .before .ask2 .ensures, c .before .before .before .message-key-fits .ensures, c .before .before .before .before .ask .ensures)
 
 pub clock-answer-spec : {M : Type 1} → statement M
-clock-answer-spec = tie.close (tie.spec ask-requires ask-requires-2 modem-fits-requires ask-requires-3 returns)
+clock-answer-spec =
+    tie.close
+    (tie.spec
+    ask-requires
+    message-key-fits-requires
+    ask-requires-2
+    modem-fits-requires
+    ask-requires-3
+    returns)

@@ -12,55 +12,71 @@ use Rattle.modem_calls.proofs.messages.put_out.Statement.{statement}
 use Rattle.modem_calls.proofs.messages.put_out.Tie as tie
 
 abbrev Inv-loop : tie.InvT-loop
-Inv-loop out₀ o count at₀ i₀ out at i =
-    (i ≤ count) × ((out ≡ sets out₀ 0 (requestsOctets (take i (o .sent)))) × ((at ≡ length (requestsOctets (take i (o .sent)))) × (at ≤ 36 * i)))
+Inv-loop key out₀ o count at₀ i₀ out at i =
+    (i ≤ count) × ((out ≡ sets out₀ 0 (requestsOctets key (take i (o .sent)))) × ((at ≡ length (requestsOctets key (take i (o .sent)))) × (at ≤ 36 * i)))
 
 abbrev μ-loop : tie.MeasureT-loop
-μ-loop out₀ o count at₀ i₀ out at i = count - i
+μ-loop key out₀ o count at₀ i₀ out at i = count - i
 
 loop-holds : tie.Need-loop-holds Inv-loop μ-loop
 unfolding requestsOctets
 loop-holds c = (omega arith, (refl, (refl, omega arith)))
 
 mul-r : tie.Need-mul-r Inv-loop μ-loop
-mul-r c = record { fits = omega (arith, c .before .before .before .pre .0 .count, c .loop-test .taken) }
+mul-r c = record { fits = omega (arith, c .before .before .before .before .pre .0 .count, c .loop-test .taken) }
 
 element-copy-out-r : tie.Need-element-copy-out-r Inv-loop μ-loop
-element-copy-out-r c = omega (arith, c .before .before .before .pre .0 .count, c .loop-test .taken)
+element-copy-out-r c = omega (arith, c .before .before .before .before .pre .0 .count, c .loop-test .taken)
 
 put-request-requires : tie.Need-put-request-requires Inv-loop μ-loop
-put-request-requires c κs = let same : length (c .before .before .before .loop .out) ≡ length (c .before .before .before .before .before .args .out .now) = ap length (c .before .before .before .loop .inv .1 .0) ∙ length-sets (c .before .before .before .before .before .args .out .now) 0 (requestsOctets (take (c .before .before .before .loop .i) (c .before .before .before .before .before .args .t1 .sent))) in
-    (c .before .before .before .before .before .pre .0 .each (c .before .before .before .loop .i) (c .before .before .loop-test .taken), omega (arith, same, c .before .before .before .before .before .pre .0 .count, c .before .before .before .before .before .pre .1, c .before .before .before .loop .inv .1 .1 .1, c .before .before .loop-test .taken))
+put-request-requires c κs =
+    let a = c .before .before .before .before .before .before .args in
+    let p = c .before .before .before .before .before .before .pre in
+    let l = c .before .before .before .loop in
+    let same : length (l .out) ≡ length (a .out .now) = ap length (l .inv .1 .0) ∙ length-sets (a .out .now) 0 (requestsOctets (a .key .now) (take (l .i) (a .t1 .sent))) in
+    (p .0 .each (l .i) (c .before .before .loop-test .taken), p .1, omega (arith, same, p .0 .count, p .2, l .inv .1 .1 .1, c .before .before .loop-test .taken))
 
 add-i : tie.Need-add-i Inv-loop μ-loop
-add-i c = record { fits = omega (arith, c .before .before .before .before .before .before .before .before .pre .0 .count, c .before .before .before .before .before .loop-test .taken) }
+add-i c = record { fits = omega (arith, c .before .before .before .before .before .before .before .before .before .pre .0 .count, c .before .before .before .before .before .loop-test .taken) }
 
 loop-less : tie.Need-loop-less Inv-loop μ-loop
 loop-less c = omega (arith, c .before .before .before .before .before .loop-test .taken)
 
 loop-again : tie.Need-loop-again Inv-loop μ-loop
-loop-again c = let inside : c .before .before .before .before .before .before .loop .i < length (c .before .before .before .before .before .before .before .before .args .t1 .sent) = omega (arith, c .before .before .before .before .before .before .before .before .pre .0 .six, c .before .before .before .before .before .before .before .before .pre .0 .count, c .before .before .before .before .before .loop-test .taken) in
+loop-again c =
+    let a = c .before .before .before .before .before .before .before .before .before .args in
+    let p = c .before .before .before .before .before .before .before .before .before .pre in
+    let l = c .before .before .before .before .before .before .loop in
+    let key = a .key .now in
+    let inside : l .i < length (a .t1 .sent) = omega (arith, p .0 .six, p .0 .count, c .before .before .before .before .before .loop-test .taken) in
     let e = c .before .before .put-request .ensures in (
       omega (arith, c .before .before .before .before .before .loop-test .taken),
       (
-        e .0 ∙ put-more (c .before .before .before .before .before .before .before .before .args .t1 .sent) (c .before .before .before .before .before .before .loop .i) inside (c .before .before .before .before .before .before .before .before .args .out .now) (c .before .before .before .before .before .before .loop .out) (c .before .before .before .before .before .before .loop .at) (c .before .before .before .before .before .before .loop .inv .1 .0) (c .before .before .before .before .before .before .loop .inv .1 .1 .0),
+        e .0 ∙ put-more key (a .t1 .sent) (l .i) inside (a .out .now) (l .out) (l .at) (l .inv .1 .0) (l .inv .1 .1 .0),
         (
-          length-more (c .before .before .before .before .before .before .before .before .args .t1 .sent) (c .before .before .before .before .before .before .loop .i) inside (c .before .before .before .before .before .before .loop .at) (c .before .before .put-request .result) (c .before .before .before .before .before .before .loop .inv .1 .1 .0) (e .1 .0),
-          omega (arith, e .1 .1, c .before .before .before .before .before .before .loop .inv .1 .1 .1),
+          length-more key (a .t1 .sent) (l .i) inside (l .at) (c .before .before .put-request .result) (l .inv .1 .1 .0) (e .1 .0),
+          omega (arith, e .1 .1, l .inv .1 .1 .1),
         ),
       ),
     )
 
 same-length : tie.Need-same-length Inv-loop μ-loop
-same-length c = ap length (c .before .loop .inv .1 .0) ∙ length-sets (c .before .before .before .args .out .now) 0 (requestsOctets (take (c .before .loop .i) (c .before .before .before .args .t1 .sent)))
+same-length c =
+    let a = c .before .before .before .before .args in
+    let l = c .before .loop in
+    ap length (l .inv .1 .0) ∙ length-sets (a .out .now) 0 (requestsOctets (a .key .now) (take (l .i) (a .t1 .sent)))
 
 returns : tie.Need-returns Inv-loop μ-loop
 unfolding outOctets
-returns c = let a = c .before .before .before .args in
-    let all : c .before .loop .i ≡ a .t1 .count = omega (arith, c .before .loop .inv .0, c .loop-test .left) in
-    let fits : length (outOctets (a .t1)) ≤ length (a .out .now) = omega (arith, out-short (a .t1) 6 (c .before .before .before .pre .0), c .before .before .before .pre .1) in (
-      c .before .loop .inv .1 .0 ∙ ap (λ (k : ℕ). sets (a .out .now) 0 (requestsOctets (take k (a .t1 .sent)))) all ∙ put-all (a .out .now) (outOctets (a .t1)) fits,
-      c .before .loop .inv .1 .1 .0 ∙ ap (λ (k : ℕ). length (requestsOctets (take k (a .t1 .sent)))) all,
+returns c =
+    let a = c .before .before .before .before .args in
+    let p = c .before .before .before .before .pre in
+    let l = c .before .loop in
+    let key = a .key .now in
+    let all : l .i ≡ a .t1 .count = omega (arith, l .inv .0, c .loop-test .left) in
+    let fits : length (outOctets key (a .t1)) ≤ length (a .out .now) = omega (arith, out-short key (a .t1) 6 (p .0), p .2) in (
+      l .inv .1 .0 ∙ ap (λ (k : ℕ). sets (a .out .now) 0 (requestsOctets key (take k (a .t1 .sent)))) all ∙ put-all (a .out .now) (outOctets key (a .t1)) fits,
+      l .inv .1 .1 .0 ∙ ap (λ (k : ℕ). length (requestsOctets key (take k (a .t1 .sent)))) all,
     )
 
 pub put-out-spec : {M : Type 1} → statement M

@@ -11,8 +11,8 @@ request-fields-requires c κs = search needs
 array-share-prefix-none : tie.Need-array-share-prefix-none
 array-share-prefix-none c = search needs
 
-slice-aggregate-key : tie.Need-slice-aggregate-key
-slice-aggregate-key c = search needs
+slice-aggregate-auth : tie.Need-slice-aggregate-auth
+slice-aggregate-auth c = search needs
 
 sub-write : tie.Need-sub-write
 sub-write c = search needs
@@ -27,15 +27,19 @@ write-requires : tie.Need-write-requires
 write-requires c κs = search needs
 
 add-result : tie.Need-add-result
-add-result c = let a = c .before .before .before .before .before .before .before .before .args in
-    record { fits = omega (arith, put-count (a .r) (c .before .before .before .before .before .before .before .before .pre .0) (c .before .before .before .before .before .before .request-fields .result) (c .before .before .before .before .before .before .request-fields .ensures) (a .out .now) (a .at) (c .before .before .before .before .before .before .before .before .pre .1) (c .before .before .before .write .result) (c .before .before .before .write .ensures .0), c .before .before .before .before .before .before .before .before .pre .0 .short, c .before .before .before .before .before .before .before .before .pre .1) }
+add-result c =
+    let a = c .before .before .before .before .before .before .before .before .before .args in
+    let p = c .before .before .before .before .before .before .before .before .before .pre in
+    record { fits = omega (arith, put-count (a .r) (p .0) (a .key .now) (p .1) (c .before .before .before .before .before .before .request-fields .result) (c .before .before .before .before .before .before .request-fields .ensures) (a .out .now) (a .at) (p .2) (c .before .before .before .write .result) (c .before .before .before .write .ensures .0), p .0 .short (a .key .now), p .2) }
 
 same-length : tie.Need-same-length
 same-length c = search needs
 
 returns : tie.Need-returns
-returns c = let a = c .before .before .before .before .before .before .before .before .args in
-    put-at (a .r) (c .before .before .before .before .before .before .before .before .pre .0) (c .before .before .before .before .before .before .request-fields .result) (c .before .before .before .before .before .before .request-fields .ensures) (a .out .now) (a .at) (c .before .before .before .before .before .before .before .before .pre .1) (c .before .before .before .write .result) _ (c .before .before .before .write .ensures .0) (c .before .before .before .write .ensures .1)
+returns c =
+    let a = c .before .before .before .before .before .before .before .before .before .args in
+    let p = c .before .before .before .before .before .before .before .before .before .pre in
+    put-at (a .r) (p .0) (a .key .now) (p .1) (c .before .before .before .before .before .before .request-fields .result) (c .before .before .before .before .before .before .request-fields .ensures) (a .out .now) (a .at) (p .2) (c .before .before .before .write .result) _ (c .before .before .before .write .ensures .0) (c .before .before .before .write .ensures .1)
 
 pub put-request-spec : {M : Type 1} → statement M
 put-request-spec =
@@ -43,7 +47,7 @@ put-request-spec =
     (tie.spec
     request-fields-requires
     array-share-prefix-none
-    slice-aggregate-key
+    slice-aggregate-auth
     sub-write
     part-write-start
     part-write-end

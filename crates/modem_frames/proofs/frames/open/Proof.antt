@@ -7,6 +7,9 @@ use Rattle.modem_frames.proofs.frames.open.Tie as tie
 machine-of-requires : tie.Need-machine-of-requires
 machine-of-requires c κs = search needs
 
+message-key-fits-requires : tie.Need-message-key-fits-requires
+message-key-fits-requires c κs = search needs
+
 open-answer-requires : tie.Need-open-answer-requires
 open-answer-requires c κs = search needs
 
@@ -15,18 +18,18 @@ answer-number-requires c κs = search needs
 
 missing-requires : tie.Need-missing-requires
 missing-requires c κs =
-    let x = c .before .before .before .before .before .before .before .before .args in
-    missing-ready (x .m) (x .direction) (x .address) (x .said) (x .number) (x .tek .now) (x .vector .now) (x .out .now) (c .before .before .before .before .machine-of .result) (c .before .before .before .open-answer .result) (c .before .before .answer-number .result)
-    (c .before .before .before .before .machine-of .ensures) (c .before .before .before .open-answer .ensures) (c .before .before .answer-number .ensures) (c .before .if1 .taken)
+    let x = c .before .before .before .before .before .before .before .before .before .before .args in
+    missing-ready (x .m) (x .direction) (x .address) (x .said) (x .number) (x .write-key .now) (x .tek .now) (x .vector .now) (x .out .now) (c .before .before .before .before .before .machine-of .result) (c .before .before .before .before .message-key-fits .result) (c .before .before .before .open-answer .result) (c .before .before .answer-number .result)
+    (c .before .before .before .before .before .machine-of .ensures) (c .before .before .before .before .message-key-fits .ensures) (c .before .before .before .open-answer .ensures) (c .before .before .answer-number .ensures) (c .before .if1 .taken)
 
 same-length : tie.Need-same-length
 same-length c = search needs
 
 returns : tie.Need-returns
 returns c =
-    let x = c .before .before .before .before .before .before .before .before .before .before .before .args in
-    open-missed (x .m) (x .direction) (x .address) (x .said) (x .number) (x .tek .now) (x .vector .now) (x .out .now) (c .before .before .before .before .before .before .before .machine-of .result) (c .before .before .before .before .before .before .open-answer .result) (c .before .before .before .before .before .answer-number .result)
-    (c .before .before .before .before .before .before .before .machine-of .ensures) (c .before .before .before .before .before .before .open-answer .ensures) (c .before .before .before .before .before .answer-number .ensures) (c .before .before .before .before .if1 .taken) (c .before .before .missing .result) _ (c .before .before .missing .ensures .0) (c .before .before .missing .ensures .1)
+    let x = c .before .before .before .before .before .before .before .before .before .before .before .before .before .args in
+    open-missed (x .m) (x .direction) (x .address) (x .said) (x .number) (x .write-key .now) (x .tek .now) (x .vector .now) (x .out .now) (c .before .before .before .before .before .before .before .before .machine-of .result) (c .before .before .before .before .before .before .before .message-key-fits .result) (c .before .before .before .before .before .before .open-answer .result) (c .before .before .before .before .before .answer-number .result)
+    (c .before .before .before .before .before .before .before .before .machine-of .ensures) (c .before .before .before .before .before .before .before .message-key-fits .ensures) (c .before .before .before .before .before .before .open-answer .ensures) (c .before .before .before .before .before .answer-number .ensures) (c .before .before .before .before .if1 .taken) (c .before .before .missing .result) _ (c .before .before .missing .ensures .0) (c .before .before .missing .ensures .1)
 
 counted-requires : tie.Need-counted-requires
 counted-requires c κs = search needs
@@ -36,15 +39,15 @@ opened-call-requires c κs = search needs
 
 returns-2 : tie.Need-returns-2
 returns-2 c =
-    let x = c .before .before .before .before .before .before .before .before .before .before .args in
-    open-refused (x .m) (x .direction) (x .address) (x .said) (x .number) (x .tek .now) (x .vector .now) (x .out .now) (c .before .before .before .before .before .before .machine-of .result) (c .before .before .before .before .before .open-answer .result) (c .before .before .before .before .answer-number .result)
-    (c .before .before .before .before .before .before .machine-of .ensures) (c .before .before .before .before .before .open-answer .ensures) (c .before .before .before .before .answer-number .ensures) (c .before .before .before .if1 .left) (c .before .if2 .taken) (c .before .before .counted .result) (c .opened-call .result) (c .before .before .counted .ensures) (c .opened-call .ensures)
+    let x = c .before .before .before .before .before .before .before .before .before .before .before .before .args in
+    open-refused (x .m) (x .direction) (x .address) (x .said) (x .number) (x .write-key .now) (x .tek .now) (x .vector .now) (x .out .now) (c .before .before .before .before .before .before .before .machine-of .result) (c .before .before .before .before .before .before .message-key-fits .result) (c .before .before .before .before .before .open-answer .result) (c .before .before .before .before .answer-number .result)
+    (c .before .before .before .before .before .before .before .machine-of .ensures) (c .before .before .before .before .before .before .message-key-fits .ensures) (c .before .before .before .before .before .open-answer .ensures) (c .before .before .before .before .answer-number .ensures) (c .before .before .before .if1 .left) (c .before .if2 .taken) (c .before .before .counted .result) (c .opened-call .result) (c .before .before .counted .ensures) (c .opened-call .ensures)
 
 put-machine-out-requires : tie.Need-put-machine-out-requires
 put-machine-out-requires c κs =
-    let x = c .before .before .before .before .before .before .before .before .before .before .before .args in
-    open-long (x .m) (x .direction) (x .address) (x .said) (x .number) (x .tek .now) (x .vector .now) (x .out .now) (c .before .before .before .before .before .before .before .machine-of .result) (c .before .before .before .before .before .before .open-answer .result) (c .before .before .before .before .before .answer-number .result)
-    (c .before .before .before .before .before .before .before .machine-of .ensures) (c .before .before .before .before .before .before .open-answer .ensures) (c .before .before .before .before .before .answer-number .ensures) (c .before .before .if2 .left)
+    let x = c .before .before .before .before .before .before .before .before .before .before .before .before .before .args in
+    open-long (x .m) (x .direction) (x .address) (x .said) (x .number) (x .write-key .now) (x .tek .now) (x .vector .now) (x .out .now) (c .before .before .before .before .before .before .before .before .machine-of .result) (c .before .before .before .before .before .before .before .message-key-fits .result) (c .before .before .before .before .before .before .open-answer .result) (c .before .before .before .before .before .answer-number .result)
+    (c .before .before .before .before .before .before .before .before .machine-of .ensures) (c .before .before .before .before .before .before .before .message-key-fits .ensures) (c .before .before .before .before .before .before .open-answer .ensures) (c .before .before .before .before .before .answer-number .ensures) (c .before .before .if2 .left)
 
 opened-call-requires-2 : tie.Need-opened-call-requires-2
 opened-call-requires-2 c κs = search needs
@@ -57,9 +60,9 @@ same-length-3 c = search needs
 
 returns-3 : tie.Need-returns-3
 returns-3 c =
-    let x = c .before .before .before .before .before .before .before .before .before .before .before .before .before .before .before .before .before .args in
-    open-done (x .m) (x .direction) (x .address) (x .said) (x .number) (x .tek .now) (x .vector .now) (x .out .now) (c .before .before .before .before .before .before .before .before .before .before .before .before .before .machine-of .result) (c .before .before .before .before .before .before .before .before .before .before .before .before .open-answer .result) (c .before .before .before .before .before .before .before .before .before .before .before .answer-number .result)
-    (c .before .before .before .before .before .before .before .before .before .before .before .before .before .machine-of .ensures) (c .before .before .before .before .before .before .before .before .before .before .before .before .open-answer .ensures) (c .before .before .before .before .before .before .before .before .before .before .before .answer-number .ensures) (c .before .before .before .before .before .before .before .before .if2 .left) (c .before .before .before .before .before .before .before .before .before .counted .result) (c .before .before .before .before .before .put-machine-out .result) (c .opened-call2 .result) _ _
+    let x = c .before .before .before .before .before .before .before .before .before .before .before .before .before .before .before .before .before .before .before .args in
+    open-done (x .m) (x .direction) (x .address) (x .said) (x .number) (x .write-key .now) (x .tek .now) (x .vector .now) (x .out .now) (c .before .before .before .before .before .before .before .before .before .before .before .before .before .before .machine-of .result) (c .before .before .before .before .before .before .before .before .before .before .before .before .before .message-key-fits .result) (c .before .before .before .before .before .before .before .before .before .before .before .before .open-answer .result) (c .before .before .before .before .before .before .before .before .before .before .before .answer-number .result)
+    (c .before .before .before .before .before .before .before .before .before .before .before .before .before .before .machine-of .ensures) (c .before .before .before .before .before .before .before .before .before .before .before .before .before .message-key-fits .ensures) (c .before .before .before .before .before .before .before .before .before .before .before .before .open-answer .ensures) (c .before .before .before .before .before .before .before .before .before .before .before .answer-number .ensures) (c .before .before .before .before .before .before .before .before .if2 .left) (c .before .before .before .before .before .before .before .before .before .counted .result) (c .before .before .before .before .before .put-machine-out .result) (c .opened-call2 .result) _ _
     (c .before .before .before .before .before .before .before .before .before .counted .ensures) (c .before .before .before .before .before .put-machine-out .ensures .0) (c .opened-call2 .ensures) (c .before .before .before .before .before .put-machine-out .ensures .1 .0) (c .before .before .before .before .before .put-machine-out .ensures .1 .1)
 
 pub open-spec : {M : Type 1} → statement M
@@ -67,6 +70,7 @@ open-spec =
     tie.close
     (tie.spec
     machine-of-requires
+    message-key-fits-requires
     open-answer-requires
     answer-number-requires
     missing-requires

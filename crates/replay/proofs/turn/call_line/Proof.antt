@@ -19,17 +19,41 @@ slice-aggregate-put-octets-at-2 c = search needs
 put-octets-at-requires-2 : tie.Need-put-octets-at-requires-2
 put-octets-at-requires-2 c κs = search needs
 
+slice-aggregate-put-octets-at-3 : tie.Need-slice-aggregate-put-octets-at-3
+slice-aggregate-put-octets-at-3 c = search needs
+
+put-octets-at-requires-3 : tie.Need-put-octets-at-requires-3
+put-octets-at-requires-3 c κs = search needs
+
+slice-aggregate-put-octets-at-4 : tie.Need-slice-aggregate-put-octets-at-4
+slice-aggregate-put-octets-at-4 c = search needs
+
+put-octets-at-requires-4 : tie.Need-put-octets-at-requires-4
+put-octets-at-requires-4 c κs = search needs
+
 array-share-prefix-octets : tie.Need-array-share-prefix-octets
 array-share-prefix-octets c = search needs
 
 slice-aggregate-applied-line : tie.Need-slice-aggregate-applied-line
-slice-aggregate-applied-line c = sym (length-take-le _ _ (omega (arith, c .before .before .before .before .before .before .before .before .before .pre .0, c .before .before .before .before .before .before .before .before .before .pre .1 .1 .0, c .before .before .before .before .octets2 .given)))
+slice-aggregate-applied-line c = sym (length-take-le _ _ (omega (arith, c .before .before .before .before .before .before .before .before .before .before .before .before .before .before .before .before .before .before .before .before .pre .0 .octets, c .before .before .before .before .before .before .before .before .before .before .before .before .before .before .before .before .before .before .before .before .pre .1 .0, c .before .before .before .before .before .before .before .before .before .before .octets2 .given)))
 
-array-share-prefix-key : tie.Need-array-share-prefix-key
-array-share-prefix-key c = search needs
+array-share-prefix-auth : tie.Need-array-share-prefix-auth
+array-share-prefix-auth c = search needs
 
 slice-aggregate-applied-line-2 : tie.Need-slice-aggregate-applied-line-2
-slice-aggregate-applied-line-2 c = sym (length-take-le _ _ (omega (arith, c .before .before .before .before .before .before .before .before .before .before .pre .1 .0, c .before .before .before .before .before .before .before .before .before .before .pre .1 .1 .0, c .before .before .key2 .given)))
+slice-aggregate-applied-line-2 c = sym (length-take-le _ _ (omega (arith, c .before .before .before .before .before .before .before .before .before .before .before .before .before .before .before .before .before .before .before .before .before .pre .0 .auth, c .before .before .before .before .before .before .before .before .before .before .before .before .before .before .before .before .before .before .before .before .before .pre .1 .0, c .before .before .before .before .before .before .before .before .auth2 .given)))
+
+array-share-prefix-read : tie.Need-array-share-prefix-read
+array-share-prefix-read c = search needs
+
+slice-aggregate-applied-line-3 : tie.Need-slice-aggregate-applied-line-3
+slice-aggregate-applied-line-3 c = sym (length-take-le _ _ (omega (arith, c .before .before .before .before .before .before .before .before .before .before .before .before .before .before .before .before .before .before .before .before .before .before .pre .0 .read, c .before .before .before .before .before .before .before .before .before .before .before .before .before .before .before .before .before .before .before .before .before .before .pre .1 .0, c .before .before .before .before .before .before .read2 .given)))
+
+array-share-prefix-write : tie.Need-array-share-prefix-write
+array-share-prefix-write c = search needs
+
+slice-aggregate-applied-line-4 : tie.Need-slice-aggregate-applied-line-4
+slice-aggregate-applied-line-4 c = sym (length-take-le _ _ (omega (arith, c .before .before .before .before .before .before .before .before .before .before .before .before .before .before .before .before .before .before .before .before .before .before .before .pre .0 .write, c .before .before .before .before .before .before .before .before .before .before .before .before .before .before .before .before .before .before .before .before .before .before .before .pre .1 .0, c .before .before .before .before .write2 .given)))
 
 applied-line-requires : tie.Need-applied-line-requires
 applied-line-requires c κs = search needs
@@ -38,7 +62,11 @@ same-length : tie.Need-same-length
 same-length c = search needs
 
 returns : tie.Need-returns
-returns c = (call-line (c .before .before .before .before .before .before .before .before .before .before .before .before .before .before .args .e) (c .before .before .before .before .before .before .before .before .before .before .before .before .before .before .args .line .now) (c .before .before .before .before .before .before .before .before .before .before .before .before .before .before .args .c) (c .before .before .before .before .before .before .before .before .before .before .before .before .before .before .args .o) (c .before .before .before .before .before .before .before .before .before .before .before .before .before .before .args .k) _ _ _ _ _ (c .before .before .before .before .before .before .before .before .before .before .put-octets-at .ensures) (c .before .before .before .before .before .before .before .put-octets-at2 .ensures) (c .before .before .before .before .before .before .before .before .before .before .before .before .before .before .pre .0) (c .before .before .before .before .before .before .before .before .before .before .before .before .before .before .pre .1 .0) (c .before .before .applied-line .ensures .0), c .before .before .applied-line .ensures .1)
+returns c =
+    let x = c .before .before .before .before .before .before .before .before .before .before .before .before .before .before .before .before .before .before .before .before .before .before .before .before .before .before .before .args in (
+      call-line (x .e) (x .line .now) (x .r) _ _ _ _ _ _ _ (c .before .before .before .before .before .before .before .before .before .before .before .before .before .before .before .before .before .before .before .before .before .before .before .before .before .before .before .pre .0) (c .before .before .before .before .before .before .before .before .before .before .before .before .before .before .before .before .before .before .put-octets-at .ensures) (c .before .before .before .before .before .before .before .before .before .before .before .before .before .before .before .put-octets-at2 .ensures) (c .before .before .before .before .before .before .before .before .before .before .before .before .put-octets-at3 .ensures) (c .before .before .before .before .before .before .before .before .before .put-octets-at4 .ensures) (c .before .before .applied-line .ensures .0),
+      c .before .before .applied-line .ensures .1,
+    )
 
 pub call-line-spec : {M : Type 1} → statement M
 call-line-spec =
@@ -48,10 +76,18 @@ call-line-spec =
     put-octets-at-requires
     slice-aggregate-put-octets-at-2
     put-octets-at-requires-2
+    slice-aggregate-put-octets-at-3
+    put-octets-at-requires-3
+    slice-aggregate-put-octets-at-4
+    put-octets-at-requires-4
     array-share-prefix-octets
     slice-aggregate-applied-line
-    array-share-prefix-key
+    array-share-prefix-auth
     slice-aggregate-applied-line-2
+    array-share-prefix-read
+    slice-aggregate-applied-line-3
+    array-share-prefix-write
+    slice-aggregate-applied-line-4
     applied-line-requires
     same-length
     returns)

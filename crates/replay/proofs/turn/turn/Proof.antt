@@ -34,7 +34,7 @@ same-length-3 : tie.Need-same-length-3
 same-length-3 c = search needs
 
 returns-3 : tie.Need-returns-3
-returns-3 c = (says-call (c .before .before .before .before .before .before .before .before .before .before .before .before .before .args .e) (c .before .before .before .before .before .before .before .before .before .before .before .before .before .args .line .now) _ _ _ (c .before .before .before .before .before .before .before .before .before .read-call .result) _ (c .before .before .before .before .before .before .before .before .before .read-call .ensures) (not-false _ (c .before .before .before .before .before .before .before .if2 .left)) (c .before .before .call-line .ensures .0), c .before .before .call-line .ensures .1)
+returns-3 c = (says-call (c .before .before .before .before .before .before .before .before .before .before .args .e) (c .before .before .before .before .before .before .before .before .before .before .args .line .now) _ _ _ (c .before .before .before .before .before .before .read-call .result) _ (c .before .before .before .before .before .before .read-call .ensures) (not-false _ (c .before .before .before .before .if2 .left)) (c .before .before .call-line .ensures .0), c .before .before .call-line .ensures .1)
 
 pub turn-spec : {M : Type 1} → statement M
 turn-spec =

@@ -32,10 +32,10 @@ refused-requires c κs = search needs
 
 returns : tie.Need-returns
 returns c =
-    let x = c .before .before .before .before .before .before .before .before .before .before .before .before .before .before .args in
-    clock-head-refused (x .e) (x .c .second) (x .octets .now) (length (x .out .now)) (c .before .before .before .before .before .before .before .before .before .clock-held .result .called) _ _ _ _ _
+    let x = c .before .before .before .before .before .before .before .before .before .before .before .before .before .before .before .args in
+    clock-head-refused (x .e) (x .c .second) (x .octets .now) (x .write .now) (length (x .out .now)) (c .before .before .before .before .before .before .before .before .before .clock-held .result .called) _ _ _ _ _
     (c .refused .ensures) (c .before .earlier-number .ensures) (c .before .before .before .answer-number .ensures)
-    (c .before .before .answer-number2 .ensures ∙ ap answerNumber (c .before .before .before .before .clock-answer .ensures ∙ clock-answered (x .e .modem) (x .c .second) (length (x .out .now))))
+    (c .before .before .answer-number2 .ensures ∙ ap answerNumber (c .before .before .before .before .clock-answer .ensures ∙ clock-answered (x .e .modem) (x .c .second) (x .write .now) (length (x .out .now))))
     (ap (λ (y : Changed). y .called) (c .before .before .before .before .before .before .before .before .before .clock-held .ensures)) (sym (c .before .before .before .before .before .before .before .is-done .ensures) ∙ not-true _ (c .before .before .before .before .before .before .if1 .taken))
 
 clock-modem-requires : tie.Need-clock-modem-requires
@@ -45,7 +45,7 @@ same-length : tie.Need-same-length
 same-length c = search needs
 
 returns-2 : tie.Need-returns-2
-returns-2 c = clock-both (c .before .before .before .before .before .before .before .before .before .before .before .before .before .before .args .e) (c .before .before .before .before .before .before .before .before .before .before .before .before .before .before .args .c .second) (c .before .before .before .before .before .before .before .before .before .before .before .before .before .before .args .octets .now) (length (c .before .before .before .before .before .before .before .before .before .before .before .before .before .before .args .out .now)) (c .before .before .before .before .before .before .before .before .before .clock-held .result .called) (c .before .before .before .before .before .before .before .before .before .clock-held .result .records) _ _ _ (c .before .before .clock-modem .ensures .0) (c .before .before .clock-modem .ensures .1) (ap (λ (y : Changed). y .called) (c .before .before .before .before .before .before .before .before .before .clock-held .ensures)) (ap (λ (y : Changed). y .records) (c .before .before .before .before .before .before .before .before .before .clock-held .ensures)) (sym (c .before .before .before .before .before .before .before .is-done .ensures) ∙ not-false _ (c .before .before .before .before .before .before .if1 .left))
+returns-2 c = clock-both (c .before .before .before .before .before .before .before .before .before .before .before .before .before .before .before .args .e) (c .before .before .before .before .before .before .before .before .before .before .before .before .before .before .before .args .c .second) (c .before .before .before .before .before .before .before .before .before .before .before .before .before .before .before .args .octets .now) (c .before .before .before .before .before .before .before .before .before .before .before .before .before .before .before .args .write .now) (length (c .before .before .before .before .before .before .before .before .before .before .before .before .before .before .before .args .out .now)) (c .before .before .before .before .before .before .before .before .before .clock-held .result .called) (c .before .before .before .before .before .before .before .before .before .clock-held .result .records) _ _ _ (c .before .before .clock-modem .ensures .0) (c .before .before .clock-modem .ensures .1) (ap (λ (y : Changed). y .called) (c .before .before .before .before .before .before .before .before .before .clock-held .ensures)) (ap (λ (y : Changed). y .records) (c .before .before .before .before .before .before .before .before .before .clock-held .ensures)) (sym (c .before .before .before .before .before .before .before .is-done .ensures) ∙ not-false _ (c .before .before .before .before .before .before .if1 .left))
 
 pub apply-clock-spec : {M : Type 1} → statement M
 apply-clock-spec =

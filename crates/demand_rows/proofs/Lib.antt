@@ -1,0 +1,16 @@
+pub mod RowsComputing
+pub mod RowsMessages
+pub mod RowsKeyed
+pub mod RowsDigests
+pub mod RowsMoved
+pub mod RowsTable
+pub mod RowsRun
+pub mod RowsSetUp
+pub mod RowsWidths
+pub mod RowsKeys
+pub mod RowsRolled
+pub mod RowsResent
+pub mod RowsSixteen
+pub mod RowsLate
+pub mod RowsListed
+pub mod RowsSecond

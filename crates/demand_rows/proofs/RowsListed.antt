@@ -1,0 +1,224 @@
+-- The rows' lists are document 01's own, as `Listed` tells them clause by clause: a test by computation, and that it is enough.
+use mathlib.Core.Path.{_≡_, refl, sym, ap, _∙_}
+use mathlib.Core.Bool.{Bool, true, false, _&&_, _||_}
+use mathlib.Core.Logic.{_⊎_, inl, inr}
+use mathlib.Core.List.{List, [], _∷_, _++_, List·Memᴰ, List·Memᴰ·head, List·Memᴰ·tail}
+use Prim.Native.Nat.{ℕ, _+_, _*_, _≤_}
+use lib.Dec.{leb, eqb}
+use lib.ListN.{length}
+use borrow.Author.Tests.{leb-true, eqb-true}
+use Rattle.questions.proofs.TestLaws.{both, either}
+use Rattle.message_rules.proofs.HoldsLaws.{never}
+use Rattle.digest_hmac.specs.Hmac.{same}
+use Rattle.digest_hmac.proofs.SameLaws.{same-equal}
+use Rattle.demand_plant.specs.World.{World, Step, list, clock, established, reauth, up, down, sealDown, sealUp, openUp, openDown, Frame, Opening}
+use Rattle.demand_plant.specs.Run.{Did, didOf, after}
+use Rattle.demand_plant.specs.Claim.{Delivers, Agrees}
+use Rattle.demand_plant.specs.Demand3.{Sent, sentAt, sentBy, messagesIn, SentCopy, FrameCopy, UpListed, StepListed, AllStepsListed, Listed}
+use Rattle.demand_rows.proofs.RowsComputing.{computing}
+use Rattle.demand_rows.proofs.RowsRun.{Run, didBy, isCopy, is-copy}
+use Rattle.demand_rows.proofs.RowsMoved.{moved}
+use Rattle.demand_rows.proofs.RowsTable.{quick, quick-same}
+use Rattle.demand_rows.proofs.RowsSetUp.{settings, start}
+use Rattle.demand_rows.proofs.RowsWidths.{exchange, frames}
+use Rattle.demand_rows.proofs.RowsKeys.{differing}
+use Rattle.demand_rows.proofs.RowsResent.{resent}
+use Rattle.demand_rows.proofs.RowsRolled.{rolled}
+use Rattle.demand_rows.proofs.RowsSixteen.{sixteen}
+use Rattle.demand_rows.proofs.RowsLate.{late, soon, late-fails}
+
+-- ---- a copy of what the modem sent
+abbrev isSent : ℕ → ℕ → List ℕ → List Sent → Bool
+isSent D now octets [] = false
+isSent D now octets (s ∷ ss) = (same octets (s .octets) && leb now (s .clock + D)) || isSent D now octets ss
+
+is-sent : (D now : ℕ) (octets : List ℕ) (ss : List Sent) → isSent D now octets ss ≡ true → SentCopy D ss now octets
+is-sent D now octets [] e = never e
+is-sent D now octets (s ∷ ss) e = go (either (same octets (s .octets) && leb now (s .clock + D)) (isSent D now octets ss) e) (is-sent D now octets ss)
+  where
+    go : (same octets (s .octets) && leb now (s .clock + D) ≡ true) ⊎ (isSent D now octets ss ≡ true) → (isSent D now octets ss ≡ true → SentCopy D ss now octets)
+        → SentCopy D (s ∷ ss) now octets
+    go (inl h) later =
+        let p = both (same octets (s .octets)) (leb now (s .clock + D)) h in
+        record { one = s; there = List·Memᴰ·head refl; same = same-equal octets (s .octets) (p .0); in-time = leb-true now (s .clock + D) (p .1) }
+    go (inr h) later = let c = later h in record { one = c .one; there = List·Memᴰ·tail (c .there); same = c .same; in-time = c .in-time }
+
+-- ---- a frame of an earlier sealing
+abbrev fits : Frame → Opening → Bool
+fits f o =
+    eqb (o .end) (f .direction)
+    && eqb (o .direction) (f .direction)
+    && eqb (o .address) (f .address)
+    && eqb (o .said) (f .said)
+    && eqb (o .number .0) (f .number .0)
+    && o .long
+
+delivers-by : (f : Frame) (o : Opening) → fits f o ≡ true → Delivers f o
+delivers-by f o e =
+    let p₅ = both _ _ e in
+    let p₄ = both _ _ (p₅ .0) in
+    let p₃ = both _ _ (p₄ .0) in
+    let p₂ = both _ _ (p₃ .0) in
+    let p₁ = both _ _ (p₂ .0) in
+    record {
+      receiver = eqb-true (o .end) (f .direction) (p₁ .0);
+      direction = eqb-true (o .direction) (f .direction) (p₁ .1);
+      address = eqb-true (o .address) (f .address) (p₂ .1);
+      said = eqb-true (o .said) (f .said) (p₃ .1);
+      number = ap (λ (n : ℕ). record { 0 = n }) (eqb-true (o .number .0) (f .number .0) (p₄ .1));
+      long = p₅ .1;
+    }
+
+-- the frames and the openings here are one each at most: the first of each is asked
+abbrev firstFits : List Frame → List Opening → Bool
+firstFits [] os = false
+firstFits (f ∷ fs) [] = false
+firstFits (f ∷ fs) (o ∷ os) = fits f o
+
+abbrev isDelivered : ℕ → ℕ → List Did → Did → Bool
+isDelivered F now [] b = false
+isDelivered F now (d ∷ ds) b = (firstFits (d .given .sealed) (b .given .opened) && leb now (d .clock + F)) || isDelivered F now ds b
+
+record First (fs : List Frame) (os : List Opening) : Type 0 where
+  frame : Frame
+  sealed : List·Memᴰ frame fs
+  opening : Opening
+  opens : List·Memᴰ opening os
+  delivers : Delivers frame opening
+
+first-of : (fs : List Frame) (os : List Opening) → firstFits fs os ≡ true → First fs os
+first-of [] os e = never e
+first-of (f ∷ fs) [] e = never e
+first-of (f ∷ fs) (o ∷ os) e = record { frame = f; sealed = List·Memᴰ·head refl; opening = o; opens = List·Memᴰ·head refl; delivers = delivers-by f o e }
+
+is-delivered : (F now : ℕ) (ds : List Did) (b : Did) → isDelivered F now ds b ≡ true → FrameCopy F ds now b
+is-delivered F now [] b e = never e
+is-delivered F now (d ∷ ds) b e = go (either (firstFits (d .given .sealed) (b .given .opened) && leb now (d .clock + F)) (isDelivered F now ds b) e) (is-delivered F now ds b)
+  where
+    go : (firstFits (d .given .sealed) (b .given .opened) && leb now (d .clock + F) ≡ true) ⊎ (isDelivered F now ds b ≡ true) → (isDelivered F now ds b ≡ true → FrameCopy F ds now b)
+        → FrameCopy F (d ∷ ds) now b
+    go (inl h) later =
+        let p = both (firstFits (d .given .sealed) (b .given .opened)) (leb now (d .clock + F)) h in
+        let q = first-of (d .given .sealed) (b .given .opened) (p .0) in
+        record {
+          sealing = d;
+          there = List·Memᴰ·head refl;
+          frame = q .frame;
+          sealed = q .sealed;
+          opening = q .opening;
+          opens = q .opens;
+          delivers = q .delivers;
+          in-time = leb-true now (d .clock + F) (p .1);
+        }
+    go (inr h) later =
+        let c = later h in
+        record {
+          sealing = c .sealing;
+          there = List·Memᴰ·tail (c .there);
+          frame = c .frame;
+          sealed = c .sealed;
+          opening = c .opening;
+          opens = c .opens;
+          delivers = c .delivers;
+          in-time = c .in-time;
+        }
+
+-- ---- a step, and a list
+abbrev upListed : ℕ → List Sent → World → ℕ → List ℕ → List ℕ → List ℕ → List ℕ → ℕ → Bool
+upListed D sent w address read write octets auth lent =
+    eqb address (w .modem .address)
+    && isSent D (w .head .clock) octets sent
+    && eqb (length read) 20
+    && eqb (length write) 20
+    && leb 342 lent
+    && leb 1 (length auth)
+    && leb (length auth) 256
+
+up-listed : (D : ℕ) (sent : List Sent) (w : World) (address : ℕ) (read write octets auth : List ℕ) (lent : ℕ) → upListed D sent w address read write octets auth lent ≡ true
+    → UpListed D sent w address read write octets auth lent
+up-listed D sent w address read write octets auth lent e =
+    let p₆ = both _ _ e in
+    let p₅ = both _ _ (p₆ .0) in
+    let p₄ = both _ _ (p₅ .0) in
+    let p₃ = both _ _ (p₄ .0) in
+    let p₂ = both _ _ (p₃ .0) in
+    let p₁ = both _ _ (p₂ .0) in
+    inl (eqb-true address (w .modem .address) (p₁ .0), is-sent D (w .head .clock) octets sent (p₁ .1), eqb-true (length read) 20 (p₂ .1), eqb-true (length write) 20 (p₃ .1), leb-true 342 lent (p₄ .1), leb-true 1 (length auth) (p₅ .1), leb-true (length auth) 256 (p₆ .1))
+
+-- with what the step gave
+abbrev stepListed : ℕ → ℕ → List Sent → List Did → World → Step → Did → Bool
+stepListed D F sent earlier w (list address allowed l m) d = true
+stepListed D F sent earlier w (clock t m write lent) d = true
+stepListed D F sent earlier w (established lent) d = true
+stepListed D F sent earlier w (reauth lent) d = true
+stepListed D F sent earlier w (up address read write octets auth lent) d = upListed D sent w address read write octets auth lent
+stepListed D F sent earlier w (down read write octets lent) d = isCopy D (w .head .clock) octets earlier && eqb (length read) 20 && eqb (length write) 20 && leb 216 lent
+stepListed D F sent earlier w (sealDown address said tek vector) d = true
+stepListed D F sent earlier w (sealUp said tek vector) d = true
+stepListed D F sent earlier w (openUp direction address said number write tek vector lent) d = isDelivered F (w .head .clock) earlier d
+stepListed D F sent earlier w (openDown direction address said number write tek vector lent) d = isDelivered F (w .head .clock) earlier d
+
+step-listed : (D F : ℕ) (sent : List Sent) (earlier : List Did) (w : World) (s : Step) → stepListed D F sent earlier w s (didOf w s) ≡ true → StepListed D F sent earlier w s
+step-listed D F sent earlier w (list address allowed l m) e = tt
+step-listed D F sent earlier w (clock t m write lent) e = tt
+step-listed D F sent earlier w (established lent) e = tt
+step-listed D F sent earlier w (reauth lent) e = tt
+step-listed D F sent earlier w (up address read write octets auth lent) e = inl (up-listed D sent w address read write octets auth lent e)
+step-listed D F sent earlier w (down read write octets lent) e =
+    let p₃ = both (isCopy D (w .head .clock) octets earlier && eqb (length read) 20 && eqb (length write) 20) (leb 216 lent) e in
+    let p₂ = both (isCopy D (w .head .clock) octets earlier && eqb (length read) 20) (eqb (length write) 20) (p₃ .0) in
+    let p₁ = both (isCopy D (w .head .clock) octets earlier) (eqb (length read) 20) (p₂ .0) in
+    inl (is-copy D (w .head .clock) octets earlier (p₁ .0), eqb-true (length read) 20 (p₁ .1), eqb-true (length write) 20 (p₂ .1), leb-true 216 lent (p₃ .1))
+step-listed D F sent earlier w (sealDown address said tek vector) e = tt
+step-listed D F sent earlier w (sealUp said tek vector) e = tt
+step-listed D F sent earlier w (openUp direction address said number write tek vector lent) e = inl (is-delivered F (w .head .clock) earlier (didOf w (openUp direction address said number write tek vector lent)) e)
+step-listed D F sent earlier w (openDown direction address said number write tek vector lent) e = inl (is-delivered F (w .head .clock) earlier (didOf w (openDown direction address said number write tek vector lent)) e)
+
+abbrev allListedBy : Run → ℕ → ℕ → List Sent → List Did → World → List Step → Bool
+allListedBy run D F sent earlier w [] = true
+allListedBy run D F sent earlier w (s ∷ ss) =
+    stepListed D F sent earlier w s (didBy run w s)
+    && allListedBy run D F (sent ++ sentAt (run w s .stepped .world .head .clock) (messagesIn (run w s .wrote))) (earlier ++ (didBy run w s ∷ [])) (run w s .stepped .world) ss
+
+all-listed : (D F : ℕ) (ss : List Step) (sent : List Sent) (earlier : List Did) (w : World) → allListedBy moved D F sent earlier w ss ≡ true → AllStepsListed D F sent earlier w ss
+all-listed D F [] sent earlier w e = tt
+all-listed D F (s ∷ ss) sent earlier w e =
+    let p = both (stepListed D F sent earlier w s (didOf w s)) (allListedBy moved D F (sent ++ sentBy w s) (earlier ++ (didOf w s ∷ [])) (after w s) ss) e in
+    (step-listed D F sent earlier w s (p .0), all-listed D F ss (sent ++ sentBy w s) (earlier ++ (didOf w s ∷ [])) (after w s) (p .1))
+
+listed-quick : (D F : ℕ) (w : World) (ss : List Step) → allListedBy quick D F [] [] w ss ≡ true → AllStepsListed D F [] [] w ss
+listed-quick D F w ss e = all-listed D F ss [] [] w (sym (ap (λ (run : Run). allListedBy run D F [] [] w ss) quick-same) ∙ e)
+
+-- ---- both widths; another message key; a resent request whose two replies arrive; a rollover; generation 16; and document 01's own list with D = 12,600 and F = 0
+-- or 1
+pub widths-listed : Listed 0 0 start (exchange ++ frames)
+unfolding computing
+widths-listed = record { first = (refl, refl, refl); steps = listed-quick 0 0 start (exchange ++ frames) refl }
+
+pub keys-listed : Listed 0 0 start differing
+unfolding computing
+keys-listed = record { first = (refl, refl, refl); steps = listed-quick 0 0 start differing refl }
+
+pub resent-listed : Listed 10 0 start resent
+unfolding computing
+resent-listed = record { first = (refl, refl, refl); steps = listed-quick 10 0 start resent refl }
+
+pub rolled-listed : Listed 0 0 start rolled
+unfolding computing
+rolled-listed = record { first = (refl, refl, refl); steps = listed-quick 0 0 start rolled refl }
+
+pub sixteen-listed : Listed 0 0 start sixteen
+unfolding computing
+sixteen-listed = record { first = (refl, refl, refl); steps = listed-quick 0 0 start sixteen refl }
+
+pub soon-listed : Listed 12600 0 start soon
+unfolding computing
+soon-listed = record { first = (refl, refl, refl); steps = listed-quick 12600 0 start soon refl }
+
+pub late-listed : Listed 12600 1 start late
+unfolding computing
+late-listed = record { first = (refl, refl, refl); steps = listed-quick 12600 1 start late refl }
+
+-- So with one second more than 7 L the claim is false of document 01's own lists too
+pub bound-is-right-listed : ((D F : ℕ) → D + F ≤ 7 * settings .tek .life + 1 → (ss : List Step) → Listed D F start ss → Agrees F [] start ss) → ⊥
+bound-is-right-listed claim = late-fails (claim 12600 1 (leb-true 12601 12601 refl) late late-listed)
