@@ -444,9 +444,10 @@ curlewreel_headend_call curlewreel_headend_list(curlewreel_headend headend, curl
 curlewreel_headend_call curlewreel_headend_clock(curlewreel_headend headend, curlewreel_record *records, size_t records_len, uint64_t second,
                                                  const uint8_t *material, size_t material_len);
 
-/* A message comes from the modem of that address; `auth_key` has the AUTH-Key's octets for an Authorization Reply. It has to be that of the authorization key that the Reply will name. Where the entry's
- * `keys.older` is after the clock, none is made, and it is the last one made, number `keys.next` - 1 mod 16: lend the same octets again. Else
- * a new one is made, with number `keys.next`. 1 to 256 octets are asked with every message.
+/* A message comes from the modem of that address; `auth_key` has the AUTH-Key's octets for an Authorization Reply. It has to be that of the
+ * authorization key that the Reply will name. Where the entry's `keys.older` is after the clock, none is made, and it is the last one made,
+ * number `keys.next` - 1 mod 16: lend the same octets again. Else a new one is made, with number `keys.next`. 1 to 256 octets are asked with
+ * every message.
  * The answer is written at the front of `out`, with the digest that `write_key` gives where it carries one; its other octets stay as they were. A
  * Key Request whose digest does not hold under `read_key` gets error 5, where its authorization key is active.
  * Refuses, and then writes and changes nothing: 1 the state, a record or the address, or a Key Reply whose lives would be
@@ -475,10 +476,9 @@ typedef struct {
 
 /* The held key with the frame's number, at the front of `tek` and `vector`; the head-end's `taken` is one more (2^64 - 1 stays).
  * Refuses, and then writes no key: 1 the state, a record or a field (a frame comes up: direction 0); 2 fewer records than are in use, or slices
- * of fewer than 16, 16 and 40 octets, or a `write_key` that has not 20; 10 an address that is not listed, or a SAID that is not that modem's; 13 no
- * such key. On 10 and 13
- * `refused` is one more (2^64 - 1 stays); on 13 a TEK Invalid for the modem is written to `invalid`, where an authorization key of it is
- * active. */
+ * of fewer than 16, 16 and 40 octets, or a `write_key` that has not 20; 10 an address that is not listed, or a SAID that is not that modem's;
+ * 13 no such key. On 10 and 13 `refused` is one more (2^64 - 1 stays); on 13 a TEK Invalid for the modem is written to `invalid`, where an
+ * authorization key of it is active. */
 curlewreel_headend_opening curlewreel_headend_open(curlewreel_headend headend, const curlewreel_record *records, size_t records_len,
                                                    uint8_t direction, uint64_t address, uint16_t said, uint8_t number,
                                                    const uint8_t *write_key, size_t write_key_len, uint8_t *tek, size_t tek_len,

@@ -68,8 +68,8 @@ pub record Frame : Type 0 where
   pub number : TekNumber
   pub out : KeyOut
 
--- An opening: at which end (0 the head-end, 1 the modem), with which frame, whether the slices are long enough and the write key has its length, document 01's number of
--- the answer, and the octets
+-- An opening: at which end (0 the head-end, 1 the modem), with which frame, whether the slices are long enough and the write key has its
+-- length, document 01's number of the answer, and the octets
 pub record Opening : Type 0 where
   pub end : ℕ
   pub direction : ℕ

@@ -39,9 +39,9 @@ unfoldable pub identifierFits : Fields → Bool
 identifierFits f = not (eqb (f .code) 12) || eqb (f .identifier) 0
 
 -- With `bad` the place of the first record out of its limits, `len` records lent, `s` what was found for the SAID, `digest` whether the
--- message's digest holds, `keys` whether both message keys have their length, and `r` the reading: 1 and 2, then 6 to 9 as the reader answers them, then 11. Of the fields to be written, question 1 asks the lives of a Key Reply and
--- the SAID, which is the request's own in a Key Reject; that the others are within the limits follows from the state, and the reader asks the
--- SAID too
+-- message's digest holds, `keys` whether both message keys have their length, and `r` the reading: 1 and 2, then 6 to 9 as the reader answers
+-- them, then 11. Of the fields to be written, question 1 asks the lives of a Key Reply and the SAID, which is the request's own in a Key Reject;
+-- that the others are within the limits follows from the state, and the reader asks the SAID too
 unfoldable pub receiveAnswer : HeadEnd → ℕ → ℕ → Found → ℕ → Bool → Bool → Reading → ℕ → ℕ → Answer
 receiveAnswer h bad len s address digest keys r auth lent =
     firstThen
