@@ -25,7 +25,7 @@ use Rattle.replay_apply.specs.Steps.{worldOf, stepFor}
 use Rattle.replay_apply.specs.Gave.{gaveOf}
 use Rattle.replay_apply.specs.Applied.{appliedOf}
 use Rattle.replay.specs.declared.turn.Turned.{Turned}
-use Rattle.replay.specs.Turn.{stepForLine, octetsAt, Within, stepRead, PlacesFit, noCallText, answeredBy, endsAfter, turnTextFor, turnEndsFor, AnswersStep}
+use Rattle.replay.specs.Turn.{stepForLine, octetsAt, Within, stepRead, PlacesFit, noCallText, answeredBy, endsAfter, turnTextFor, turnEndsFor, AnswersStep, GivenFits, givenText, PutsGiven}
 
 -- The octets in front are those that were written
 pub take-front : (w rest : List ℕ) → take (length w) (w ++ rest) ≡ w
@@ -53,25 +53,30 @@ module _ (e : Ends) (c : Call) (octets auth read write : List ℕ) (a : Applied)
   many : a .count ≡ length (gaveOf (worldOf e) s .sent)
   many = ap (λ (y : Applied). y .count) is
 
-  pub width-fits : a .width ≤ length tek
+  width-fits : a .width ≤ length tek
   width-fits = let h = written-fits (replicate 16 0) (gaveOf (worldOf e) s .out .tek) tek tek-is in omega (arith, h, wide)
 
-  pub count-fits : a .count ≤ length sent
+  count-fits : a .count ≤ length sent
   count-fits = let h = written-fits (replicate 342 0) (gaveOf (worldOf e) s .sent) sent sent-is in omega (arith, h, many)
 
-  pub room : (out : List ℕ) → length tek ≡ 16 → length vector ≡ 16 → length sent ≡ 342 → 1024 ≤ length out
-      → Room (take (a .width) tek) (take (a .width) vector) (take (a .count) sent) out
-  room out t v m long =
+  pub given-fits : (out : List ℕ) → length tek ≡ 16 → length vector ≡ 16 → length sent ≡ 342 → 1024 ≤ length out → GivenFits a tek vector sent out
+  given-fits out t v m long =
       let w = width-fits in
       let k = count-fits in
+      let w′ : a .width ≤ length vector = omega (arith, w, t, v) in
       let lt = length-take-le (a .width) tek w in
-      let lv = length-take-le (a .width) vector (omega (arith, w, t, v)) in
+      let lv = length-take-le (a .width) vector w′ in
       let ls = length-take-le (a .count) sent k in
       record {
-        tek-fits = omega (arith, w, t, lt);
-        vector-fits = omega (arith, w, t, lv);
-        sent-fits = omega (arith, k, m, ls);
-        out-fits = long;
+        tek-there = w;
+        vector-there = w′;
+        sent-there = k;
+        room = record {
+          tek-fits = omega (arith, w, t, lt);
+          vector-fits = omega (arith, w, t, lv);
+          sent-fits = omega (arith, k, m, ls);
+          out-fits = long;
+        };
       }
 
   tek-shown : take (a .width) tek ≡ gaveOf (worldOf e) s .out .tek
@@ -83,7 +88,7 @@ module _ (e : Ends) (c : Call) (octets auth read write : List ℕ) (a : Applied)
   vector-shown : take (a .width) vector ≡ take (length (gaveOf (worldOf e) s .out .tek)) (overlay (replicate 16 0) (gaveOf (worldOf e) s .out .vector))
   vector-shown = ap (λ n. take n vector) wide ∙ ap (take (length (gaveOf (worldOf e) s .out .tek))) vector-is
 
-  pub answer-is : (k : Kind) → answerText k (a .number) (a .key .0) (take (a .width) tek) (take (a .width) vector) (take (a .count) sent) ≡ answeredBy e s k
+  answer-is : (k : Kind) → givenText k a tek vector sent ≡ answeredBy e s k
   unfolding answeredBy
   answer-is k =
       ap (λ (y : Applied). answerText k (y .number) (y .key .0) (take (a .width) tek) (take (a .width) vector) (take (a .count) sent)) is
@@ -92,9 +97,10 @@ module _ (e : Ends) (c : Call) (octets auth read write : List ℕ) (a : Applied)
       ∙ ap (λ (l : List ℕ). answerText k (appliedOf (worldOf e) s .number) (gaveOf (worldOf e) s .key .0) (gaveOf (worldOf e) s .out .tek)
       (take (length (gaveOf (worldOf e) s .out .tek)) (overlay (replicate 16 0) (gaveOf (worldOf e) s .out .vector))) l) sent-shown
 
-  pub ends-are : a .ends ≡ endsAfter e s
+  pub step-answered : (k : Kind) (out after : List ℕ) (count : ℕ) → PutsGiven k a tek vector sent out count after → AnswersStep e s k out (a .ends) count after
   unfolding endsAfter
-  ends-are = ap (λ (y : Applied). y .ends) is
+  step-answered k out after count (n, written) =
+      (ap (λ (y : Applied). y .ends) is, n ∙ ap length (answer-is k), written ∙ ap (overlay out) (answer-is k))
 
 -- ---- a line by what it says
 abbrev Turns : Ends → Option LineCall → List ℕ → Turned → List ℕ → Type 0

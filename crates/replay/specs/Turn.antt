@@ -11,8 +11,9 @@ use Rattle.text.specs.Hex.{octetsOf}
 use Rattle.replay_fields.specs.declared.octets.Place.{Place}
 use Rattle.replay_read.specs.declared.call.ReadCall.{ReadCall}
 use Rattle.replay_read.specs.Call.{LineCall, callOf}
-use Rattle.replay_answer.specs.Answer.{answerText}
+use Rattle.replay_answer.specs.Answer.{answerText, Room}
 use Rattle.replay_apply.specs.declared.ends.Ends.{Ends}
+use Rattle.replay_apply.specs.declared.ends.Applied.{Applied}
 use Rattle.replay_apply.specs.Steps.{worldOf, endsOf, stepFor}
 use Rattle.replay_apply.specs.Gave.{gaveOf}
 
@@ -66,6 +67,22 @@ turnText e line = turnTextFor e (callOf line)
 
 abbrev pub turnEnds : Ends → List ℕ → Ends
 turnEnds e line = turnEndsFor e (callOf line)
+
+-- ---- the answer by what a call left at the front of the slices lent to it
+pub record GivenFits (a : Applied) (tek vector sent out : List ℕ) : Type 0 where
+  pub tek-there : a .width ≤ length tek
+  pub vector-there : a .width ≤ length vector
+  pub sent-there : a .count ≤ length sent
+  pub room : Room (take (a .width) tek) (take (a .width) vector) (take (a .count) sent) out
+
+abbrev pub givenText : Kind → Applied → List ℕ → List ℕ → List ℕ → List ℕ
+givenText k a tek vector sent =
+    answerText k (a .number) (a .key .0) (take (a .width) tek) (take (a .width) vector) (take (a .count) sent)
+
+abbrev pub PutsGiven : Kind → Applied → List ℕ → List ℕ → List ℕ → List ℕ → ℕ → List ℕ → Type 0
+PutsGiven k a tek vector sent out count out-after =
+    (count ≡ length (givenText k a tek vector sent))
+    × (out-after ≡ overlay out (givenText k a tek vector sent))
 
 -- ---- what each contract says: the ends after a step or a line, how many characters are answered, and every octet of the slice lent for them
 abbrev pub AnswersStep : Ends → Step → Kind → List ℕ → Ends → ℕ → List ℕ → Type 0

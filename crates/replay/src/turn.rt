@@ -4,17 +4,19 @@ ghost use Prim.Native.Nat.{_≤_};
 ghost use lib.ListN.{length};
 ghost use Rattle.key_traffic.specs.Octets.{overlay};
 ghost use Rattle.replay_apply.specs.Steps.{stepFor};
-ghost use Rattle.replay.specs.Turn.{noCallText, stepRead, PlacesFit, AnswersStep, AnswersLine};
+ghost use Rattle.replay.specs.Turn.{noCallText, stepRead, PlacesFit, GivenFits, PutsGiven, AnswersStep, AnswersLine};
 use crate::lines::put_no_call;
 use key_traffic::octets::KEY_OCTETS;
 use message_rules::codes::ANSWER_OCTETS;
 use replay_answer::answer::put_answer;
 use replay_apply::apply::apply;
+use replay_apply::ends::Applied;
 use replay_apply::ends::Ends;
 use replay_fields::fields::LINE_MAX;
 use replay_read::call::ReadCall;
 use replay_read::call::read_call;
 use replay_read::calls::Call;
+use replay_read::calls::Kind;
 use text::hex::put_octets_at;
 
 // Octets that the digits of a line may say: half as many as its characters.
@@ -24,6 +26,33 @@ const LINE_OCTETS: usize = 8192;
 pub struct Turned {
     pub count: usize,
     pub ends: Ends,
+}
+
+// The answer of a call that was applied, by what it left at the front of the slices lent to it.
+fn put_given(
+    kind: Kind,
+    a: Applied,
+    tek: &[u8],
+    vector: &[u8],
+    sent: &[u8],
+    out: &mut [u8],
+) -> usize
+    requires { ⌜ GivenFits a (now tek) (now vector) (now sent) (now out) ⌝ }
+    ensures { λ r. ⌜ PutsGiven kind a (now (tek .entry)) (now (vector .entry)) (now (sent .entry)) (now (out .entry)) r (now (out .exit)) ⌝ }
+    ensures { λ r. ⌜ r ≤ 1024 ⌝ }
+{
+    let width = a.width;
+    let count = a.count;
+    let k = a.key;
+    put_answer(
+        kind,
+        a.number,
+        k.0,
+        &tek[..width],
+        &vector[..width],
+        &sent[..count],
+        out,
+    )
 }
 
 // A call with its octets and its keys, applied; the answer is written.
@@ -55,20 +84,9 @@ fn applied_line(
         &mut vector,
         &mut sent,
     );
-    let width = a.width;
-    let count = a.count;
     let ends = a.ends;
-    let k = a.key;
     let kind = c.kind;
-    let n = put_answer(
-        kind,
-        a.number,
-        k.0,
-        &tek[..width],
-        &vector[..width],
-        &sent[..count],
-        out,
-    );
+    let n = put_given(kind, a, &tek, &vector, &sent, out);
     Turned {
         count: n,
         ends: ends,

@@ -1,10 +1,5 @@
 -- `replay::turn::applied_line` meets its contract.
-use mathlib.Core.Path.{sym, _∙_, ap}
-use native.Mathlib.Omega.{arith}
-use lib.ListN.{length}
-use lib.Seq.{length-take-le}
-use Rattle.key_traffic.specs.Octets.{overlay}
-use Rattle.replay.proofs.TurnLaws.{width-fits, count-fits, room, answer-is, ends-are}
+use Rattle.replay.proofs.TurnLaws.{given-fits, step-answered}
 use borrow.Author.Needs.{needs}
 use Rattle.replay.proofs.turn.applied_line.Statement.{statement}
 use Rattle.replay.proofs.turn.applied_line.Tie as tie
@@ -21,32 +16,30 @@ slice-aggregate-apply-3 c = search needs
 apply-requires : tie.Need-apply-requires
 apply-requires c κs = search needs
 
-array-share-prefix-tek : tie.Need-array-share-prefix-tek
-array-share-prefix-tek c = width-fits (c .before .before .before .before .before .before .before .before .before .before .before .before .before .before .args .e) (c .before .before .before .before .before .before .before .before .before .before .before .before .before .before .args .c) (c .before .before .before .before .before .before .before .before .before .before .before .before .before .before .args .octets .now) (c .before .before .before .before .before .before .before .before .before .before .before .before .before .before .args .auth .now) (c .before .before .before .before .before .before .before .before .before .before .before .before .before .before .args .read .now) (c .before .before .before .before .before .before .before .before .before .before .before .before .before .before .args .write .now) (c .before .before .before .before .before .apply .result) _ _ _ (c .before .before .before .before .before .apply .ensures .0) (c .before .before .before .before .before .apply .ensures .1) (c .before .before .before .before .before .apply .ensures .2) (c .before .before .before .before .before .apply .ensures .3)
+slice-aggregate-put-given : tie.Need-slice-aggregate-put-given
+slice-aggregate-put-given c = search needs
 
-slice-aggregate-put-answer : tie.Need-slice-aggregate-put-answer
-slice-aggregate-put-answer c = sym (length-take-le _ _ (width-fits (c .before .before .before .before .before .before .before .before .before .before .before .before .before .before .before .args .e) (c .before .before .before .before .before .before .before .before .before .before .before .before .before .before .before .args .c) (c .before .before .before .before .before .before .before .before .before .before .before .before .before .before .before .args .octets .now) (c .before .before .before .before .before .before .before .before .before .before .before .before .before .before .before .args .auth .now) (c .before .before .before .before .before .before .before .before .before .before .before .before .before .before .before .args .read .now) (c .before .before .before .before .before .before .before .before .before .before .before .before .before .before .before .args .write .now) (c .before .before .before .before .before .before .apply .result) _ _ _ (c .before .before .before .before .before .before .apply .ensures .0) (c .before .before .before .before .before .before .apply .ensures .1) (c .before .before .before .before .before .before .apply .ensures .2) (c .before .before .before .before .before .before .apply .ensures .3)))
+slice-aggregate-put-given-2 : tie.Need-slice-aggregate-put-given-2
+slice-aggregate-put-given-2 c = search needs
 
-array-share-prefix-vector : tie.Need-array-share-prefix-vector
-array-share-prefix-vector c = let w = width-fits (c .before .before .before .before .before .before .before .before .before .before .before .before .before .before .before .args .e) (c .before .before .before .before .before .before .before .before .before .before .before .before .before .before .before .args .c) (c .before .before .before .before .before .before .before .before .before .before .before .before .before .before .before .args .octets .now) (c .before .before .before .before .before .before .before .before .before .before .before .before .before .before .before .args .auth .now) (c .before .before .before .before .before .before .before .before .before .before .before .before .before .before .before .args .read .now) (c .before .before .before .before .before .before .before .before .before .before .before .before .before .before .before .args .write .now) (c .before .before .before .before .before .before .apply .result) _ _ _ (c .before .before .before .before .before .before .apply .ensures .0) (c .before .before .before .before .before .before .apply .ensures .1) (c .before .before .before .before .before .before .apply .ensures .2) (c .before .before .before .before .before .before .apply .ensures .3) in omega (arith, w, c .before .before .before .before .before .tek2 .given, c .before .before .before .before .vector2 .given)
+slice-aggregate-put-given-3 : tie.Need-slice-aggregate-put-given-3
+slice-aggregate-put-given-3 c = search needs
 
-slice-aggregate-put-answer-2 : tie.Need-slice-aggregate-put-answer-2
-slice-aggregate-put-answer-2 c = let w = width-fits (c .before .before .before .before .before .before .before .before .before .before .before .before .before .before .before .before .args .e) (c .before .before .before .before .before .before .before .before .before .before .before .before .before .before .before .before .args .c) (c .before .before .before .before .before .before .before .before .before .before .before .before .before .before .before .before .args .octets .now) (c .before .before .before .before .before .before .before .before .before .before .before .before .before .before .before .before .args .auth .now) (c .before .before .before .before .before .before .before .before .before .before .before .before .before .before .before .before .args .read .now) (c .before .before .before .before .before .before .before .before .before .before .before .before .before .before .before .before .args .write .now) (c .before .before .before .before .before .before .before .apply .result) _ _ _ (c .before .before .before .before .before .before .before .apply .ensures .0) (c .before .before .before .before .before .before .before .apply .ensures .1) (c .before .before .before .before .before .before .before .apply .ensures .2) (c .before .before .before .before .before .before .before .apply .ensures .3) in sym (length-take-le _ _ (omega (arith, w, c .before .before .before .before .before .before .tek2 .given, c .before .before .before .before .before .vector2 .given)))
-
-array-share-prefix-sent : tie.Need-array-share-prefix-sent
-array-share-prefix-sent c = count-fits (c .before .before .before .before .before .before .before .before .before .before .before .before .before .before .before .before .args .e) (c .before .before .before .before .before .before .before .before .before .before .before .before .before .before .before .before .args .c) (c .before .before .before .before .before .before .before .before .before .before .before .before .before .before .before .before .args .octets .now) (c .before .before .before .before .before .before .before .before .before .before .before .before .before .before .before .before .args .auth .now) (c .before .before .before .before .before .before .before .before .before .before .before .before .before .before .before .before .args .read .now) (c .before .before .before .before .before .before .before .before .before .before .before .before .before .before .before .before .args .write .now) (c .before .before .before .before .before .before .before .apply .result) _ _ _ (c .before .before .before .before .before .before .before .apply .ensures .0) (c .before .before .before .before .before .before .before .apply .ensures .1) (c .before .before .before .before .before .before .before .apply .ensures .2) (c .before .before .before .before .before .before .before .apply .ensures .3)
-
-slice-aggregate-put-answer-3 : tie.Need-slice-aggregate-put-answer-3
-slice-aggregate-put-answer-3 c = sym (length-take-le _ _ (count-fits (c .before .before .before .before .before .before .before .before .before .before .before .before .before .before .before .before .before .args .e) (c .before .before .before .before .before .before .before .before .before .before .before .before .before .before .before .before .before .args .c) (c .before .before .before .before .before .before .before .before .before .before .before .before .before .before .before .before .before .args .octets .now) (c .before .before .before .before .before .before .before .before .before .before .before .before .before .before .before .before .before .args .auth .now) (c .before .before .before .before .before .before .before .before .before .before .before .before .before .before .before .before .before .args .read .now) (c .before .before .before .before .before .before .before .before .before .before .before .before .before .before .before .before .before .args .write .now) (c .before .before .before .before .before .before .before .before .apply .result) _ _ _ (c .before .before .before .before .before .before .before .before .apply .ensures .0) (c .before .before .before .before .before .before .before .before .apply .ensures .1) (c .before .before .before .before .before .before .before .before .apply .ensures .2) (c .before .before .before .before .before .before .before .before .apply .ensures .3)))
-
-put-answer-requires : tie.Need-put-answer-requires
-put-answer-requires c κs = room (c .before .before .before .before .before .before .before .before .before .before .before .before .before .before .before .before .before .before .args .e) (c .before .before .before .before .before .before .before .before .before .before .before .before .before .before .before .before .before .before .args .c) (c .before .before .before .before .before .before .before .before .before .before .before .before .before .before .before .before .before .before .args .octets .now) (c .before .before .before .before .before .before .before .before .before .before .before .before .before .before .before .before .before .before .args .auth .now) (c .before .before .before .before .before .before .before .before .before .before .before .before .before .before .before .before .before .before .args .read .now) (c .before .before .before .before .before .before .before .before .before .before .before .before .before .before .before .before .before .before .args .write .now) (c .before .before .before .before .before .before .before .before .before .apply .result) _ _ _ (c .before .before .before .before .before .before .before .before .before .apply .ensures .0) (c .before .before .before .before .before .before .before .before .before .apply .ensures .1) (c .before .before .before .before .before .before .before .before .before .apply .ensures .2) (c .before .before .before .before .before .before .before .before .before .apply .ensures .3) _ (c .before .before .before .before .before .before .before .before .tek2 .given) (c .before .before .before .before .before .before .before .vector2 .given) (c .before .before .before .before .before .before .sent2 .given) (c .before .before .before .before .before .before .before .before .before .before .before .before .before .before .before .before .before .before .pre)
+put-given-requires : tie.Need-put-given-requires
+put-given-requires c κs =
+    let a = c .before .before .before .before .before .before .before .before .before .before .before .before .before .before .before .before .before .args in
+    let r = c .before .before .before .before .before .before .before .before .apply in
+    given-fits (a .e) (a .c) (a .octets .now) (a .auth .now) (a .read .now) (a .write .now) (r .result) _ _ _ (r .ensures .0) (r .ensures .1) (r .ensures .2) (r .ensures .3) _ (c .before .before .before .before .before .before .before .tek2 .given) (c .before .before .before .before .before .before .vector2 .given) (c .before .before .before .before .before .sent2 .given) (c .before .before .before .before .before .before .before .before .before .before .before .before .before .before .before .before .before .pre)
 
 same-length : tie.Need-same-length
 same-length c = search needs
 
 returns : tie.Need-returns
-returns c = let answer = answer-is (c .before .before .before .before .before .before .before .before .before .before .before .before .before .before .before .before .before .before .before .before .before .args .e) (c .before .before .before .before .before .before .before .before .before .before .before .before .before .before .before .before .before .before .before .before .before .args .c) (c .before .before .before .before .before .before .before .before .before .before .before .before .before .before .before .before .before .before .before .before .before .args .octets .now) (c .before .before .before .before .before .before .before .before .before .before .before .before .before .before .before .before .before .before .before .before .before .args .auth .now) (c .before .before .before .before .before .before .before .before .before .before .before .before .before .before .before .before .before .before .before .before .before .args .read .now) (c .before .before .before .before .before .before .before .before .before .before .before .before .before .before .before .before .before .before .before .before .before .args .write .now) (c .before .before .before .before .before .before .before .before .before .before .before .before .apply .result) _ _ _ (c .before .before .before .before .before .before .before .before .before .before .before .before .apply .ensures .0) (c .before .before .before .before .before .before .before .before .before .before .before .before .apply .ensures .1) (c .before .before .before .before .before .before .before .before .before .before .before .before .apply .ensures .2) (c .before .before .before .before .before .before .before .before .before .before .before .before .apply .ensures .3) (c .before .before .before .before .before .before .before .before .before .before .before .before .before .before .before .before .before .before .before .before .before .args .c .kind) in ((ends-are (c .before .before .before .before .before .before .before .before .before .before .before .before .before .before .before .before .before .before .before .before .before .args .e) (c .before .before .before .before .before .before .before .before .before .before .before .before .before .before .before .before .before .before .before .before .before .args .c) (c .before .before .before .before .before .before .before .before .before .before .before .before .before .before .before .before .before .before .before .before .before .args .octets .now) (c .before .before .before .before .before .before .before .before .before .before .before .before .before .before .before .before .before .before .before .before .before .args .auth .now) (c .before .before .before .before .before .before .before .before .before .before .before .before .before .before .before .before .before .before .before .before .before .args .read .now) (c .before .before .before .before .before .before .before .before .before .before .before .before .before .before .before .before .before .before .before .before .before .args .write .now) (c .before .before .before .before .before .before .before .before .before .before .before .before .apply .result) _ _ _ (c .before .before .before .before .before .before .before .before .before .before .before .before .apply .ensures .0) (c .before .before .before .before .before .before .before .before .before .before .before .before .apply .ensures .1) (c .before .before .before .before .before .before .before .before .before .before .before .before .apply .ensures .2) (c .before .before .before .before .before .before .before .before .before .before .before .before .apply .ensures .3), c .before .before .put-answer .ensures .1 .0 ∙ ap length answer, c .before .before .put-answer .ensures .0 ∙ ap (overlay (c .before .before .before .before .before .before .before .before .before .before .before .before .before .before .before .before .before .before .before .before .before .args .out .now)) answer), c .before .before .put-answer .ensures .1 .1)
+returns c =
+    let a = c .before .before .before .before .before .before .before .before .before .before .before .before .before .before .before .before .before .before .before .before .args in
+    let r = c .before .before .before .before .before .before .before .before .before .before .before .apply in
+    let put = c .before .before .put-given .ensures in
+    (step-answered (a .e) (a .c) (a .octets .now) (a .auth .now) (a .read .now) (a .write .now) (r .result) _ _ _ (r .ensures .0) (r .ensures .1) (r .ensures .2) (r .ensures .3) _ _ _ _ (put .0), put .1)
 
 pub applied-line-spec : {M : Type 1} → statement M
 applied-line-spec =
@@ -56,12 +49,9 @@ applied-line-spec =
     slice-aggregate-apply-2
     slice-aggregate-apply-3
     apply-requires
-    array-share-prefix-tek
-    slice-aggregate-put-answer
-    array-share-prefix-vector
-    slice-aggregate-put-answer-2
-    array-share-prefix-sent
-    slice-aggregate-put-answer-3
-    put-answer-requires
+    slice-aggregate-put-given
+    slice-aggregate-put-given-2
+    slice-aggregate-put-given-3
+    put-given-requires
     same-length
     returns)
