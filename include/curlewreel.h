@@ -12,8 +12,10 @@
  *   (CURLEWREEL_FIELD_DIGEST_HOLDS). Where it does, unwrap and write again under the same key; where it does not, hand the message on as it came, and
  *   it is refused with 12. RSA, certificates and the frame cipher are yours too.
  * - Message keys. Digests are worked out and checked here, but the keys are yours to derive and to keep: two of 20 octets for each authorization
- *   key (AK), one for messages that go up and one for those that go down (document 000, 10). "Which message key goes where" below says which one a call
- *   asks. A key of another length is refused with 2, a wrong one gets the message refused: 12 at the modem, error 5 at the head-end.
+ *   key (AK), SHA-1 over 64 octets 0x5C (for messages that go up) or 0x3A (for those that go down) and the AUTH-Key behind them. (Document 000, 11.4
+ *   and I.4.3; the text there says 63 times, and 64 gives the keys that it prints. examples/message_keys.h does it.) "Which message key goes where"
+ *   below says which one a call asks. A key of another length is refused with 2. Under a wrong one the modem refuses a message with 12, and the
+ *   head-end answers a Key Request with an Authorization Invalid, error 5.
  * - Material has to be random, fresh for each call, and never used twice, not even what a call dropped.
  * - Call `clock` often, each second at best: no timer fires elsewhere. One clock has to give both ends' seconds; it never goes back.
  * - When Reject Wait has run out, the modem is in Start and stays there: call `established` again. Silent is left by no call: make a new modem.
@@ -71,7 +73,11 @@ extern "C" {
  *
  * `established` and `reauth` write messages without a digest, `list`, `seal` and the head-end's `clock` write none: they take no key. Which AK a
  * message names curlewreel_read tells before the call, lent any 20 octets: CURLEWREEL_FIELD_AK_NUMBER. It never answers 12. Read with the right key, it tells
- * too whether the digest holds. */
+ * too whether the digest holds.
+ * Where you have no key of the AK that a message names: at the head-end any 20 octets do for `read_key`, since error 4 comes before error 5 (an AK that
+ * is active there is one that you made). At the modem drop a Key Reply, a Key Reject or a TEK Invalid: the AK that it names is not asked there, and with
+ * octets that others know for `read_key` it would be taken from whoever signed it with them.
+ * Keep the keys of an Authorization Reply only where curlewreel_modem_receive took it (0): one that comes again late is refused, and the AK in use stays. */
 
 /* How many octets a call asks. */
 enum {
@@ -538,7 +544,7 @@ static inline const char *curlewreel_tek_state_name(uint8_t state) {
     }
 }
 
-/* The deepest call with its state by value, and some 2,000 octets for a function between it and the wiping. */
+/* The deepest call with its state by value, and some 4,400 octets for a function between it and the wiping. */
 enum { CURLEWREEL_OCTETS_STACK = 18432 };
 
 /* Inlined, it would overwrite a part of its caller's frame instead. */

@@ -2,7 +2,7 @@
 use mathlib.Core.List.{List, [], _∷_}
 use Prim.Native.Nat.{ℕ}
 
--- The AUTH-Key, and the two message keys that are derived of it (document 000, 10): of what goes up and of what goes down
+-- The AUTH-Key, and the two message keys that are derived of it (document 000, 11.4 and I.4.3): of what goes up and of what goes down
 abbrev pub key : List ℕ
 key = 200 ∷ []
 

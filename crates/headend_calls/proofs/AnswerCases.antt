@@ -4,7 +4,7 @@ use mathlib.Core.Bool.{Bool, true, false, cond, not}
 use mathlib.Core.List.{List, []}
 use Prim.Native.Nat.{ℕ, _+_, _≤_, _<_}
 use native.Mathlib.Omega.{arith}
-use lib.Dec.{ltb}
+use lib.Dec.{ltb, eqb}
 use lib.ListN.{length, getD}
 use borrow.Author.Tests.{lt-ltb, eq-eqb, ne-eqb, eqb-true}
 use Rattle.key_association.specs.declared.record.Assoc.{Assoc}
@@ -25,7 +25,7 @@ use Rattle.headend_state.specs.Authorization.{isActive, withKey, keysFor, lifeL
 use Rattle.headend_state.specs.Entries.{lists, listsSuite, knownOf, withEntry}
 use Rattle.headend_limits.specs.Search.{halfIn, ofRequest}
 use Rattle.headend_answers.specs.AnswerFields.{reject, invalid, keyReject, keyReply, replyAnswer}
-use Rattle.headend_answers.specs.Answers.{keyAnswer, keysAfter, withKeys, stateAfter, requestReaction}
+use Rattle.headend_answers.specs.Answers.{keyAnswer, keysAfter, withKeys, stateAfter, requestAnswer, requestReaction}
 use Rattle.headend_steps.specs.Receive.{answerOctets}
 use Rattle.headend_answers.proofs.AnswersLaws.{key-unlisted, key-inactive, key-digest, key-foreign, key-granted, request-unlisted, request-barred, request-allowed, react-request, react-key, react-none}
 use Rattle.headend_steps.proofs.AnswerFits.{suits-reply}
@@ -193,7 +193,8 @@ pub none-octets : (auth write : List ℕ) → answerOctets noFields auth write �
 unfolding answerOctets
 none-octets auth write = refl
 
--- ---- error 5 only there: an Authorization Invalid with it answers a Key Request of a listed modem, under an active key, whose digest does not hold
+-- ---- error 5 only there: an Authorization Invalid with it answers a Key Request of a listed modem, under an active key, whose digest does not hold;
+-- no other message gets one
 error-5 : (clock : ℕ) (k : Known) (a : Assoc) (digest : Bool) (f : Fields) → keyAnswer clock k a digest f .code ≡ 10 → keyAnswer clock k a digest f .error ≡ 5
     → (k .«is_listed» ≡ true) × (isActive clock (f .ak) (k .entry .keys) ≡ true) × (digest ≡ false)
 unfolding keyAnswer
@@ -209,12 +210,35 @@ error-5 clock k a digest f = go (k .«is_listed») (isActive clock (f .ak) (k .e
     go true true true false c e = absurd (omega (arith, c))
     go true true true true c e = absurd (omega (arith, c))
 
-pub sent-digest-only : (h : HeadEnd) (xs : List Assoc) (address : ℕ) (read s : List ℕ) → request s .code ≡ 7
+-- An Authorization Request gets a Reply or a Reject
+request-gets : (h : HeadEnd) (k : Known) (identifier : ℕ) → requestReaction h k identifier .answer .code ≡ 10 → ⊥
+unfolding requestAnswer
+request-gets h k identifier = go (k .«is_listed») (eqb (k .entry .allowed) 0)
+  where
+    go : (b₁ b₂ : Bool) → cond (not b₁) (reject identifier 1) (cond b₂ (reject identifier 6) (replyAnswer (h .clock) identifier (k .entry .listing) (keysAfter h (k .entry)))) .code ≡ 10 → ⊥
+    go false b₂ e = omega (arith, e)
+    go true true e = omega (arith, e)
+    go true false e = omega (arith, e)
+
+pub sent-digest-only : (h : HeadEnd) (xs : List Assoc) (address : ℕ) (read s : List ℕ)
     → reaction h xs address read s .answer .code ≡ 10 → reaction h xs address read s .answer .error ≡ 5
-    → (knownOf h address .«is_listed» ≡ true) × (isActive (h .clock) (request s .ak) (knownOf h address .entry .keys) ≡ true) × (requestHolds read s ≡ false)
-sent-digest-only h xs address read s code ten five =
-    let k = knownOf h address in
-    let a = found xs s .held in
-    let is : reaction h xs address read s .answer ≡ keyAnswer (h .clock) k a (requestHolds read s) (request s) =
-    ap (λ (w : Reaction). w .answer) (react-key h k a (requestHolds read s) (request s) (ne-eqb (request s .code) 4 (λ q. omega (arith, q, code))) (eq-eqb (request s .code) 7 code)) in
-    error-5 (h .clock) k a (requestHolds read s) (request s) (ap (λ (g : Fields). g .code) (sym is) ∙ ten) (ap (λ (g : Fields). g .error) (sym is) ∙ five)
+    → (request s .code ≡ 7) × (knownOf h address .«is_listed» ≡ true) × (isActive (h .clock) (request s .ak) (knownOf h address .entry .keys) ≡ true) × (requestHolds read s ≡ false)
+sent-digest-only h xs address read s ten five = go (eqb (request s .code) 4) refl (eqb (request s .code) 7) refl
+  where
+    k : Known
+    k = knownOf h address
+
+    a : Assoc
+    a = found xs s .held
+
+    holds : Bool
+    holds = requestHolds read s
+
+    go : (b₄ : Bool) → eqb (request s .code) 4 ≡ b₄ → (b₇ : Bool) → eqb (request s .code) 7 ≡ b₇
+        → (request s .code ≡ 7) × (k .«is_listed» ≡ true) × (isActive (h .clock) (request s .ak) (k .entry .keys) ≡ true) × (holds ≡ false)
+    go true e₄ b₇ e₇ = absurd (request-gets h k (request s .identifier) (ap (λ (w : Reaction). w .answer .code) (sym (react-request h k a holds (request s) e₄)) ∙ ten))
+    go false e₄ true e₇ =
+        let is = react-key h k a holds (request s) e₄ e₇ in
+        let five-is = error-5 (h .clock) k a holds (request s) (ap (λ (w : Reaction). w .answer .code) (sym is) ∙ ten) (ap (λ (w : Reaction). w .answer .error) (sym is) ∙ five) in
+        (eqb-true (request s .code) 7 e₇, five-is .0, five-is .1, five-is .2)
+    go false e₄ false e₇ = absurd (omega (arith, ap (λ (w : Reaction). w .answer .code) (sym (react-none h k a holds (request s) e₄ e₇)) ∙ ten))

@@ -28,13 +28,13 @@ module _ (key : List ℕ) (p : Place) (s : List ℕ) where
   unfolding digestHolds
   no-digest h = rw (ne-eqb (p .len) 20 h)
 
-  pub no-room : length s < p .start + 20 → false ≡ digestHolds key p s
-  unfolding digestHolds
-  no-room h = sym (ap (λ (b : Bool). eqb (p .len) 20 && b) (holds-short s (coveredUpTo p) key (p .start) h) ∙ none-held (eqb (p .len) 20))
-
   pub asked : p .len ≡ 20 → holds s (coveredUpTo p) key (p .start) ≡ digestHolds key p s
   unfolding digestHolds
-  asked h = rw (eq-eqb (p .len) 20 h)
+  asked h = sym (ap (λ (b : Bool). b && holds s (coveredUpTo p) key (p .start)) (eq-eqb (p .len) 20 h))
+
+  pub no-room : length s < p .start + 20 → false ≡ digestHolds key p s
+  unfolding digestHolds
+  no-room h = sym (ap (λ (b : Bool). eqb (p .len) 20 && b) (holds-short s _ key (p .start) h) ∙ none-held (eqb (p .len) 20))
 
 -- ---- octets p, the head of a digest attribute, a digest, and what follows
 module _ (p digest padding : List ℕ) (n : length digest ≡ 20) where

@@ -1,3 +1,4 @@
 pub mod DigestLaws
 pub mod SignedLaws
+pub mod CoveredLaws
 pub mod CallLaws

@@ -17,6 +17,7 @@ pub mod OrderLaws
 pub mod PartsRead
 pub mod DescriptorsRead
 pub mod TakenLaws
+pub mod LastLaws
 pub mod ReadFits
 pub mod ItemsRead
 pub mod ReadWritten

@@ -10,7 +10,7 @@ use Rattle.questions.proofs.TestLaws.{both}
 use Rattle.questions.specs.declared.refusal.Answer.the-variants.{Done}
 use Rattle.message_rules.specs.declared.fields.Receiver.{Receiver}
 use Rattle.message_rules.specs.declared.fields.Receiver.the-variants.{HeadEnd, Modem}
-use Rattle.message_rules.specs.Attributes.{Item, items, values, countOf, valueAt, allOf}
+use Rattle.message_rules.specs.Attributes.{Item, items, values, countOf, valueAt, lastType, allOf}
 use Rattle.message_rules.specs.Ranges.{requiredOf, isRequired, fits, compound, insideSound, good, sound}
 use Rattle.message_rules.specs.Messages.{codeOf, bodyOf, receives, hasRequired, insidesHaveRequired, compoundsHaveRequired, digestLast, different, saidsIn, saidsDiffer, inOrder, pairInOrder, complete, messageAnswer}
 use Rattle.message_rules.proofs.HoldsLaws.{never, all-value}
@@ -28,6 +28,7 @@ pub record Taken (c : ℕ) (l : List Item) : Type 0 where
   pub descriptors : isRequired c 23 ≡ true → insidesHaveRequired 23 (values 23 l) ≡ true
   pub differ : isRequired c 23 ≡ true → different (saidsIn (values 23 l)) ≡ true
   pub order : isRequired c 13 ≡ true → inOrder (valueAt 13 0 l) (valueAt 13 1 l) ≡ true
+  pub last : isRequired c 11 ≡ true → lastType l ≡ 11
 
 -- a question that is asked where a type is needed
 pub asked : (b x : Bool) → not b || x ≡ true → b ≡ true → x ≡ true
@@ -56,7 +57,7 @@ codes Modem c h = go (leb 5 c) refl (leb c 6) refl (leb 8 c) refl (leb c 11) ref
     go false p q eq false r t et h = never h
 
 pub taken : (e : Receiver) (s : List ℕ) → messageAnswer e s ≡ Done → Taken (codeOf s) (items (bodyOf s))
-unfolding sound complete compoundsHaveRequired saidsDiffer pairInOrder
+unfolding sound complete digestLast compoundsHaveRequired saidsDiffer pairInOrder
 taken e s d =
     let a = answer-done e s .0 d in
     let c = codeOf s in
@@ -81,6 +82,7 @@ taken e s d =
       descriptors = asked (isRequired c 23) (insidesHaveRequired 23 (values 23 l)) (e3 .1);
       differ = asked (isRequired c 23) (different (saidsIn (values 23 l))) (e4 .1);
       order = asked (isRequired c 13) (inOrder (valueAt 13 0 l) (valueAt 13 1 l)) (e5 .1);
+      last = λ h. eqb-true (lastType l) 11 (asked (isRequired c 11) (eqb (lastType l) 11) (e1 .1) h);
     }
 
 module _ (c : ℕ) (l : List Item) (t : Taken c l) where
