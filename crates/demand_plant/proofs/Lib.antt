@@ -23,3 +23,6 @@ pub mod Seconds
 pub mod SameSecond
 pub mod Counts
 pub mod SentRead
+pub mod Under
+pub mod UnderMessages
+pub mod UnderRun
