@@ -51,14 +51,24 @@ static const uint8_t *with_code(uint8_t code, const uint8_t *octets, size_t n) {
     return NULL;
 }
 
-/* An Authorization Reply brings the AUTH-Key of the keys that count from now on: what the modem sends on it goes under them already. In the field the
- * AUTH-Key is encrypted for the modem. */
-static void take_auth_key(const uint8_t *message, size_t n) {
+/* The modem's keys once it has taken a message: its own, or those of the AUTH-Key that an Authorization Reply brings. In the field the AUTH-Key is
+ * encrypted for the modem. */
+static message_keys keys_after(const uint8_t *message, size_t n) {
     static const uint8_t any_key[CURLEWREEL_OCTETS_MESSAGE_KEY];
     uint8_t fields[CURLEWREEL_FIELDS];
     uint8_t number = curlewreel_read(CURLEWREEL_MODEM, message, n, any_key, sizeof any_key, fields, sizeof fields);
-    if (number == CURLEWREEL_DONE && fields[CURLEWREEL_FIELD_CODE] == CURLEWREEL_MESSAGE_AUTHORIZATION_REPLY)
-        modem_keys = derived(message + two(fields + CURLEWREEL_FIELD_KEY_START), two(fields + CURLEWREEL_FIELD_KEY_LENGTH));
+    if (number != CURLEWREEL_DONE || fields[CURLEWREEL_FIELD_CODE] != CURLEWREEL_MESSAGE_AUTHORIZATION_REPLY) return modem_keys;
+    return derived(message + two(fields + CURLEWREEL_FIELD_KEY_START), two(fields + CURLEWREEL_FIELD_KEY_LENGTH));
+}
+
+/* A message comes down. What the modem sends on an Authorization Reply goes under the Reply's own keys already; they are kept only where the Reply
+ * was taken, since one that is refused, an old copy say, must not cost the keys that count. */
+static size_t deliver(size_t n) {
+    message_keys after = keys_after(down, n);
+    curlewreel_modem_call call = curlewreel_modem_receive(modem, down, n, modem_keys.down, sizeof modem_keys.down, after.up,
+                                                          sizeof after.up, up, sizeof up);
+    if (call.number == CURLEWREEL_DONE) modem_keys = after;
+    return at_modem("  modem", call);
 }
 
 /* The message with that code, of `n` octets that the modem put out, goes up, and the answer comes down; gives how many octets the modem sends
@@ -70,10 +80,7 @@ static size_t exchange(uint8_t code, size_t n) {
         curlewreel_headend_receive(headend, records, CURLEWREEL_RECORDS, ADDRESS, message, curlewreel_message_octets(message),
                                    headend_keys.up, sizeof headend_keys.up, headend_keys.down, sizeof headend_keys.down, auth_key,
                                    sizeof auth_key, down, sizeof down);
-    size_t count = at_headend("  head-end", answered);
-    take_auth_key(down, count);
-    return at_modem("  modem", curlewreel_modem_receive(modem, down, count, modem_keys.down, sizeof modem_keys.down, modem_keys.up,
-                                                        sizeof modem_keys.up, up, sizeof up));
+    return deliver(at_headend("  head-end", answered));
 }
 
 /* What seals or opens a frame. */

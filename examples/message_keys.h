@@ -1,5 +1,6 @@
-/* The message keys of an authorization key, derived from its AUTH-Key as document 000, 10 has it: SHA-1 (FIPS 180-4) of 64 octets 5c, for what goes
- * up, or 3a, for what goes down, and the AUTH-Key. For the examples: short, and not fast. Deriving the keys is the caller's part. */
+/* The message keys of an authorization key, derived from its AUTH-Key (document 000, 11.4 and I.4.3): SHA-1 (FIPS 180-4) of 64 octets 5c, for what goes
+ * up, or 3a, for what goes down, and the AUTH-Key. Both places say 63 octets; only 64, a whole block of SHA-1, give the keys that are printed there. For the
+ * examples: short, and not fast. Deriving the keys is the caller's part. */
 #ifndef EXAMPLES_MESSAGE_KEYS_H
 #define EXAMPLES_MESSAGE_KEYS_H
 

@@ -59,6 +59,11 @@ def down(octets, ak=0, own=0, key=None):
     return call("down,%s,%s,%s" % (key or down_key(ak), up_key(own), octets))
 
 
+def with_digest(octets):
+    """the message with an attribute of type 11 before the others: 20 octets of any value"""
+    return octets[:4] + "%04x" % (int(octets[4:8], 16) + 23) + "0b0014" + "5a" * 20 + octets[8:]
+
+
 def clock(second, tag): return call("clock,%d,%s,%s" % (second, material(tag, 3), up_key()))
 def seal_down(said): return call("sealdown,%d,%d" % (HOTEL, said))[0]
 def seal_up(said): return (call("sealup,%d" % said) + [""])[0]
@@ -128,7 +133,8 @@ crossing = seal_up(LOBBY)
 clock(900, 7)
 open_up(LOBBY, crossing)
 open_down(LOBBY, seal_down(LOBBY))
-for m in [up(m)[0] for m in messages(clock(1500, 8)[0])]:
+pairs = [up(m)[0] for m in messages(clock(1500, 8)[0])]
+for m in pairs:
     down(m)
 clock(1800, 9)
 open_down(LOBBY, seal_down(LOBBY))
@@ -136,9 +142,12 @@ open_down(LOBBY, seal_down(LOBBY))
 # a frame that comes far too late: its key is gone
 asked = open_down(LOBBY, late)[0]
 
-# the modem reauthorizes while it waits for that pair
+# the pair of 1,500 again, with the Identifier of the request that waits: it was put into the digest's sum with another, and is refused
+assert down(pairs[0][:2] + asked[2:4] + pairs[0][4:]) == []
+
+# the modem reauthorizes while it waits for that pair; the Reply comes with a digest, which it does not need, and is taken
 renewed = call("reauth")[0]
-down(up(renewed, ak=1)[0], ak=1, own=1)
+assert down(with_digest(up(renewed, ak=1)[0]), ak=1, own=1) == [""]
 down(up(asked)[0], own=1)
 open_up(LOBBY, seal_up(LOBBY), ak=1)
 print("\n".join(calls))

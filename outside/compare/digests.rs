@@ -1,9 +1,11 @@
-//! How often an answer rested on a digest that holds and on one that does not, by the code of the message; and which calls were lent a message
-//! key of another length.
+//! How often an answer rested on a digest that holds and on one that does not, by the code of the message; messages with another Identifier, and ones
+//! with a digest that is skipped; and which calls were lent a message key of another length.
 // each program uses a part of it
 #![allow(dead_code)]
 
 use crate::plant::unhex;
+use crate::renumbered::Renumbered;
+use crate::skipped::Skipped;
 use crate::tally::{fail, number_of};
 use curlewreel_outside::message::{read, write, End};
 use std::collections::BTreeMap;
@@ -31,6 +33,8 @@ pub struct Digests {
     /// Of those that held: messages that are not as the writer writes them.
     unusual: [u64; 13],
     failed: [u64; 13],
+    pub renumbered: Renumbered,
+    skipped: Skipped,
     lengths: BTreeMap<(&'static str, usize), u64>,
 }
 
@@ -49,10 +53,27 @@ impl Digests {
             "down" if number == 0 => self.add_held(End::Modem, fields[1], fields[3]),
             _ => {}
         }
+        self.add_cases(&fields, number, answer);
+    }
+
+    /// The cases that document 02's M-100 brings and that are counted by themselves.
+    fn add_cases(&mut self, fields: &[&str], number: u8, answer: &str) {
+        match fields[0] {
+            "up" => self.renumbered.add_up(fields[2], fields[5], answer),
+            "down" => self.renumbered.add_down(fields[1], fields[3], answer),
+            _ => {}
+        }
+        if number == 0 && matches!(fields[0], "up" | "down") {
+            self.skipped.add(&unhex(fields[fields.len() - 1]));
+        }
+        if matches!((fields[0], number), ("up" | "down" | "clock", 0) | ("opendown", 13)) {
+            self.renumbered.put_out(&unhex(answer.split(',').nth(1).unwrap_or_default()));
+        }
     }
 
     /// A list with its answers.
     pub fn add_list(&mut self, input: &str, answers: &str) {
+        self.renumbered.begin();
         input.lines().skip(4).zip(answers.lines()).for_each(|(call, answer)| self.add(call, answer));
     }
 
@@ -78,6 +99,8 @@ impl Digests {
                 fail(&format!("{of}: no digest of code {code} {what}"));
             }
         }
+        self.renumbered.told(of);
+        self.skipped.told(of);
         for (_, _, what) in KEYS {
             if let Some(n) = LENGTHS.iter().find(|n| !self.lengths.contains_key(&(what, **n))) {
                 fail(&format!("{of}: {what} never had {n} octets"));

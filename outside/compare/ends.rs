@@ -13,7 +13,9 @@ mod keys;
 mod make;
 mod plant;
 mod random;
+mod renumbered;
 mod set_ups;
+mod skipped;
 mod state;
 mod tally;
 mod text;
@@ -259,6 +261,7 @@ fn main() {
         let state = set_ups::start(&mut plant, &mut r);
         let (headend, modem, codes, transitions) = (&mut headend, &mut modem, &mut codes, &mut transitions);
         let (ahead, digests) = (&mut ahead, &mut digests);
+        digests.renumbered.begin();
         let mut list = List { plant, state, r, headend, modem, codes, transitions, ahead, digests };
         for at in 0..plant::lists::calls_of(seed + i, calls) {
             if let Err(e) = list.next() {

@@ -20,9 +20,15 @@ pub struct Pair {
     pub down: [u8; KEY],
 }
 
-/// Those of an AUTH-Key. Where an end has none, an empty one stands for it.
+/// Those of an AUTH-Key.
 pub fn pair_of(auth_key: &[u8]) -> Pair {
     Pair { up: up_key(auth_key), down: down_key(auth_key) }
+}
+
+/// Those of an end's AUTH-Key; random ones where it has none, since any fixed ones would be the same at both ends, and digests would hold by them.
+fn pair_or_any(r: &mut Random, auth_key: Option<&Vec<u8>>) -> Pair {
+    let mut any = || r.octets(KEY).try_into().expect("20 octets");
+    auth_key.map_or_else(|| Pair { up: any(), down: any() }, |k| pair_of(k))
 }
 
 impl AuthKeys {
@@ -31,12 +37,12 @@ impl AuthKeys {
         self.headend.get(&(address, number))
     }
 
-    pub fn at_headend(&self, address: u64, number: u8) -> Pair {
-        pair_of(self.made(address, number).map_or(&[], |k| k))
+    pub fn at_headend(&self, r: &mut Random, address: u64, number: u8) -> Pair {
+        pair_or_any(r, self.made(address, number))
     }
 
-    pub fn at_modem(&self, number: u8) -> Pair {
-        pair_of(self.modem.get(&number).map_or(&[], |k| k))
+    pub fn at_modem(&self, r: &mut Random, number: u8) -> Pair {
+        pair_or_any(r, self.modem.get(&number))
     }
 
     /// The head-end wrote an Authorization Reply.

@@ -7,6 +7,7 @@ use curlewreel_outside::frame::Pair;
 use curlewreel_outside::message::{Descriptor, Fields, Params, Reading};
 
 pub const WRITTEN: usize = 109;
+pub const DIGEST: usize = 113;
 pub const HOLDS: usize = 117;
 pub const FIELDS: usize = 118;
 

@@ -7,6 +7,7 @@ mod library;
 mod make;
 mod random;
 mod seen;
+mod skipped;
 mod tally;
 
 use curlewreel_outside::digest::KEY;
@@ -35,7 +36,7 @@ fn lent_key(r: &mut Random, right: &[u8]) -> Vec<u8> {
 /// A message, and a key under which its digest holds mostly, also where it is unusual; then an octet may be changed or put behind it.
 fn some_message(r: &mut Random) -> (Vec<u8>, Vec<u8>) {
     let (mut octets, key) = (make::message(r), r.octets(KEY));
-    if r.one_in(4) && octets.len() > 4 {
+    if r.one_in(4) && octets.len() >= 4 {
         make::put_skipped(r, &mut octets);
     }
     if !r.one_in(4) {
@@ -87,7 +88,7 @@ fn read_one(r: &mut Random, octets: &[u8], key: &[u8], seen: &mut Seen) -> Optio
             "read, end {end}, key {key:02x?}, {octets:02x?}: library {number}, outside {wanted}\nlibrary {fields:02x?}\noutside {written:02x?}"
         )
     });
-    seen.add_reading(wanted, key.len(), &written);
+    seen.add_reading(wanted, key.len(), octets, &written);
     expected.ok().map(|reading| {
         let (at, length) = reading.auth_key;
         Read { holds: reading.holds(octets, key), auth_key: octets[at..at + length].to_vec(), reading }

@@ -241,12 +241,14 @@ pub fn rearrange(r: &mut Random, out: &mut Vec<u8>) {
     put_parts(out, &parts);
 }
 
-/// One to three attributes that are skipped, somewhere before the last one: of types that no message needs.
+/// One to three attributes that are skipped: of types that no message needs, and a digest where the code needs none. They stand before the last
+/// one, which may be a digest that has to stay the last; where none is needed they may stand behind it too.
 pub fn put_skipped(r: &mut Random, out: &mut Vec<u8>) {
-    let mut parts = parts_of(out);
+    let (mut parts, digest) = (parts_of(out), matches!(out.first(), Some(7 | 8 | 9 | 11)));
     for _ in 0..1 + r.below(3) {
-        let (at, n) = (r.below(parts.len().max(1) as u64) as usize, r.pick(&[0, 1, 8, 60, 200]));
-        let kind = r.pick(&[0, 1, 5, 14, 99, 127, 255]);
+        let places = if digest { parts.len().max(1) } else { parts.len() + 1 };
+        let (at, n) = (r.below(places as u64) as usize, r.pick(&[0, 1, 8, 19, 20, 21, 60, 200]));
+        let kind = if !digest && r.one_in(2) { 11 } else { r.pick(&[0, 1, 5, 14, 99, 127, 255]) };
         parts.insert(at, tlv(kind, &r.octets(n)));
     }
     put_parts(out, &parts);

@@ -22,6 +22,8 @@ impl Plant {
             3 => make::rearrange(&mut self.r, &mut octets),
             4 => octets.extend(octets.clone()),
             5 | 6 => make::put_skipped(&mut self.r, &mut octets),
+            // an Authorization Reply more often: a digest in it is skipped
+            7..=14 if octets[0] == 5 => make::put_skipped(&mut self.r, &mut octets),
             _ => {}
         }
         if self.r.one_in(25) && octets.len() > 1 {
@@ -29,6 +31,22 @@ impl Plant {
         }
         let changed = octets != copied;
         (octets, changed)
+    }
+
+    /// A copy with another Identifier and nothing else changed, so that its digest no longer holds: a Key Request, or an old Key Reply that gets the
+    /// Identifier of its SAID's waiting request. None where there is none.
+    fn renumbered(&mut self, up: bool) -> Option<Vec<u8>> {
+        let (more, slots) = (1 + self.r.below(255) as u8, &self.ends.modem.slots);
+        // as the head-end writes it: a Key Reply's SAID stands in a fixed place
+        let waiting = |m: &[u8]| slots.iter().find(|s| s.waits() && m[11..13] == s.said.to_be_bytes()).map(|s| s.identifier);
+        let other = |m: &[u8]| match (up, m[0]) {
+            (true, 7) => Some(m[1].wrapping_add(more)),
+            (false, 8) => waiting(m).filter(|identifier| *identifier != m[1]),
+            _ => None,
+        };
+        let copies = if up { &self.up } else { &self.down }.iter();
+        let mut all: Vec<Vec<u8>> = copies.filter_map(|m| Some([&[m[0], other(m)?], &m[2..]].concat())).collect();
+        self.place(all.len()).map(|at| all.swap_remove(at))
     }
 
     /// An answer to one of the modem's messages that the head-end did not give.
@@ -53,6 +71,10 @@ impl Plant {
     }
 
     pub(super) fn message(&mut self, up: bool) -> String {
+        let renumbered = if self.r.one_in(12) { self.renumbered(up) } else { None };
+        if let Some(octets) = renumbered {
+            return self.under_right_keys(up, &octets);
+        }
         let (mut octets, changed) = self.copy(up);
         if !up {
             let (read, write) = self.at_modem(&octets);
@@ -61,18 +83,33 @@ impl Plant {
             return format!("down,{},{},{}", hex(&keys[0]), hex(&keys[1]), hex(&octets));
         }
         let address = self.some_address();
-        let number = read(End::HeadEnd, &octets).map_or(0, |m| m.fields.ak_number);
-        let pair = self.auth_keys.at_headend(address, number);
+        let pair = self.at_headend(address, &octets);
         self.digested(&mut octets, changed, &pair.up);
         let keys = [keys::lent(&mut self.r, &pair.up, &pair.down), keys::lent(&mut self.r, &pair.down, &pair.up)];
         let auth_key = self.auth_key(address);
         format!("up,{address},{},{},{},{}", hex(&keys[0]), hex(&keys[1]), hex(&auth_key), hex(&octets))
     }
 
+    /// The message as it is, from the modem's own address.
+    fn under_right_keys(&mut self, up: bool, octets: &[u8]) -> String {
+        if up {
+            let (address, pair) = (self.address, self.at_headend(self.address, octets));
+            return format!("up,{address},{},{},07,{}", hex(&pair.up), hex(&pair.down), hex(octets));
+        }
+        let (read, write) = self.at_modem(octets);
+        format!("down,{},{},{}", hex(&read.down), hex(&write.up), hex(octets))
+    }
+
+    /// The keys of what a message to the head-end names.
+    fn at_headend(&mut self, address: u64, octets: &[u8]) -> Pair {
+        let number = read(End::HeadEnd, octets).map_or(0, |m| m.fields.ak_number);
+        self.auth_keys.at_headend(&mut self.r, address, number)
+    }
+
     /// The keys of what a message to the modem names, and of what it leads to: after a Reply, those of the Reply's own authorization key.
-    fn at_modem(&self, octets: &[u8]) -> (Pair, Pair) {
-        let (own, message) = (self.auth_keys.at_modem(self.ends.modem.ak), read(End::Modem, octets));
-        let named = message.as_ref().map_or(own, |m| self.auth_keys.at_modem(m.fields.ak_number));
+    fn at_modem(&mut self, octets: &[u8]) -> (Pair, Pair) {
+        let (own, message) = (self.auth_keys.at_modem(&mut self.r, self.ends.modem.ak), read(End::Modem, octets));
+        let named = message.as_ref().map_or(own, |m| self.auth_keys.at_modem(&mut self.r, m.fields.ak_number));
         let reply = message.ok().filter(|m| m.fields.code == 5);
         (named, reply.map_or(own, |m| pair_of(auth_key_in(&m, octets))))
     }
@@ -92,13 +129,13 @@ impl Plant {
     /// The key of a TEK Invalid for a modem: its newest authorization key's, down.
     pub(super) fn invalid_key(&mut self, address: u64) -> String {
         let entry = self.ends.head.entries.iter().find(|e| e.address == address && e.aks > 0);
-        let pair = self.auth_keys.at_headend(address, entry.map_or(0, |e| e.newest()));
+        let pair = self.auth_keys.at_headend(&mut self.r, address, entry.map_or(0, |e| e.newest()));
         hex(&keys::lent(&mut self.r, &pair.down, &pair.up))
     }
 
     /// The key of the modem's Key Requests.
     pub(super) fn request_key(&mut self) -> String {
-        let pair = self.auth_keys.at_modem(self.ends.modem.ak);
+        let pair = self.auth_keys.at_modem(&mut self.r, self.ends.modem.ak);
         hex(&keys::lent(&mut self.r, &pair.up, &pair.down))
     }
 

@@ -6,6 +6,8 @@ mod keys;
 mod make;
 mod plant;
 mod random;
+mod renumbered;
+mod skipped;
 mod tally;
 mod text;
 

@@ -1,6 +1,7 @@
 //! What `compare` has seen of reading and writing: the answers, the codes, digests that held and that did not, and message keys by length.
 
 use crate::library;
+use crate::skipped::Skipped;
 use crate::tally::{check, Tally};
 use std::collections::BTreeSet;
 
@@ -16,14 +17,15 @@ pub struct Seen {
     held: [u64; 13],
     failed: [u64; 13],
     again: [u64; 13],
+    skipped: Skipped,
     /// Lengths of the keys that were refused with 2.
     read_keys: BTreeSet<usize>,
     write_keys: BTreeSet<usize>,
 }
 
 impl Seen {
-    /// A reading's number, the length of its key, and the fields that it gave.
-    pub fn add_reading(&mut self, number: u8, key: usize, fields: &[u8]) {
+    /// A reading's number, the length of its key, the message, and the fields that it gave.
+    pub fn add_reading(&mut self, number: u8, key: usize, octets: &[u8], fields: &[u8]) {
         self.reads.add(number);
         if number == 2 {
             self.read_keys.insert(key);
@@ -33,6 +35,9 @@ impl Seen {
             self.codes[code] += 1;
             let counts = if fields[library::HOLDS] == 1 { &mut self.held } else { &mut self.failed };
             counts[code] += 1;
+            // neither a place nor a digest that holds
+            let none = fields[library::DIGEST..].iter().all(|octet| *octet == 0);
+            check(!self.skipped.add(octets) || none, || format!("a digest that is skipped was told of: {octets:02x?}"));
         }
     }
 
@@ -60,6 +65,7 @@ impl Seen {
             println!("outside: digests of codes 7, 8, 9, 11 that {what}: {:?}", WITH_DIGEST.map(|code| counts[code]));
             WITH_DIGEST.iter().for_each(|code| check(counts[*code] > 0, || format!("no digest of code {code} {what}")));
         }
+        self.skipped.told("reading");
         for (what, lengths) in [("reading", &self.read_keys), ("writing", &self.write_keys)] {
             [0, 19, 21].iter().for_each(|n| check(lengths.contains(n), || format!("{what} was never lent a key of {n} octets")));
         }

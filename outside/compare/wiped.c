@@ -1,11 +1,10 @@
 /* What include/curlewreel.h says of the stack: no call goes deeper than CURLEWREEL_OCTETS_STACK, and curlewreel_wipe_stack leaves no key there. All
- * keys are of one octet, MARK, the message keys too, which HMAC mixes with two others; the stack is filled before a call and looked through
- * after it. */
-#include "curlewreel.h"
+ * keys are of one octet, MARK, the message keys too, which HMAC mixes with two others; the words of SHA-1 behind each mixed block are as good as the
+ * message key to whoever forges a digest, and are looked for too. The stack is filled before a call and looked through after it. */
+#include "../../examples/message_keys.h"
 #include <stdio.h>
-#include <string.h>
 
-enum { MARK = 0xc7, INNER = MARK ^ 0x36, OUTER = MARK ^ 0x5c, FILL = 0x11, DEPTH = 64 * 1024, NEAR = 256, ADDRESS = 77 };
+enum { MARK = 0xc7, INNER = MARK ^ 0x36, OUTER = MARK ^ 0x5c, FILL = 0x11, DEPTH = 64 * 1024, NEAR = 256, ADDRESS = 77, NO_KEY = 9 };
 
 static const curlewreel_settings settings = {.tek_life = 1800, .tek_grace = 300, .ak_life = 86400, .ak_grace = 300, .authorize = 10,
     .reauthorize = 10, .operational = 10, .rekey = 10, .reject = 60};
@@ -14,9 +13,11 @@ static curlewreel_headend h;
 static curlewreel_record records[CURLEWREEL_RECORDS];
 static curlewreel_modem m;
 static uint8_t material[CURLEWREEL_SAIDS * CURLEWREEL_OCTETS_MATERIAL], down[CURLEWREEL_OCTETS_ANSWER], up[CURLEWREEL_OCTETS_SENT];
+static uint8_t fields[CURLEWREEL_FIELDS], again[CURLEWREEL_OCTETS_ANSWER];
 static uint8_t tek[CURLEWREEL_OCTETS_TEK], vector[CURLEWREEL_OCTETS_VECTOR], invalid[CURLEWREEL_OCTETS_INVALID];
 static uint8_t key[CURLEWREEL_OCTETS_MESSAGE_KEY]; /* of both directions */
-static size_t came, deepest, wrong;
+static uint32_t mixed[2][SHA1_WORDS]; /* the words of SHA-1 behind HMAC's two blocks */
+static size_t came, deepest, words_left, wrong;
 
 /* Each call in a frame of its own, so that what it leaves is below that of `tried`. */
 #define CALL(name, call) __attribute__((noinline)) static void name(void) { call; }
@@ -27,6 +28,10 @@ static const curlewreel_listing four = {.count = 4, .saids = {1, 2, 3, 4},
     .suites = {CURLEWREEL_SUITE_AES, CURLEWREEL_SUITE_DES, CURLEWREEL_SUITE_AES, CURLEWREEL_SUITE_AES}};
 static const uint8_t *message;
 
+/* A message of the head-end's that carries a digest; and the same from its fields. */
+CALL(read_again, wrong += curlewreel_read(CURLEWREEL_MODEM, down, came, key, sizeof key, fields, sizeof fields) != 0)
+CALL(write_again, curlewreel_written w = curlewreel_write(fields, sizeof fields, auth_key, sizeof auth_key, key, sizeof key, again,
+    sizeof again); wrong += w.number != 0 || w.count != came || memcmp(again, down, came) != 0)
 HEAD(headend_new, curlewreel_headend_new(settings))
 HEAD(headend_list, curlewreel_headend_list(h, records, CURLEWREEL_RECORDS, ADDRESS, 1, four, material, sizeof material))
 HEAD(headend_clock, curlewreel_headend_clock(h, records, CURLEWREEL_RECORDS, 100000, material, sizeof material))
@@ -35,6 +40,10 @@ HEAD(headend_receive, curlewreel_headend_receive(h, records, CURLEWREEL_RECORDS,
 CALL(headend_seal, wrong += curlewreel_headend_seal(h, records, CURLEWREEL_RECORDS, ADDRESS, 1, tek, 16, vector, 16).number != 0)
 CALL(headend_open, curlewreel_headend_opening c = curlewreel_headend_open(h, records, CURLEWREEL_RECORDS, CURLEWREEL_UP, ADDRESS, 1, 1, key,
     sizeof key, tek, 16, vector, 16, invalid, sizeof invalid); h = c.headend; wrong += c.number != 0)
+/* Refused, and a TEK Invalid is written, which goes down. */
+CALL(headend_no_key, curlewreel_headend_opening c = curlewreel_headend_open(h, records, CURLEWREEL_RECORDS, CURLEWREEL_UP, ADDRESS, 1, NO_KEY,
+    key, sizeof key, tek, 16, vector, 16, down, sizeof down); h = c.headend; came = c.count;
+    wrong += c.number != CURLEWREEL_NO_KEY_FOR_FRAME || came == 0 || down[0] != CURLEWREEL_MESSAGE_TEK_INVALID)
 MODEM(modem_new, curlewreel_modem_new(settings, ADDRESS, 1))
 MODEM(modem_established, curlewreel_modem_established(m, up, sizeof up))
 MODEM(modem_reauth, curlewreel_modem_reauth(m, up, sizeof up))
@@ -43,6 +52,10 @@ MODEM(modem_receive, curlewreel_modem_receive(m, down, came, key, sizeof key, ke
 CALL(modem_seal, wrong += curlewreel_modem_seal(m, 1, tek, 16, vector, 16).number != 0)
 CALL(modem_open, curlewreel_modem_opening c = curlewreel_modem_open(m, CURLEWREEL_DOWN, ADDRESS, 1, 1, key, sizeof key, tek, 16,
     vector, 16, up, sizeof up); m = c.modem; wrong += c.number != 0)
+/* Refused, and a Key Request is sent. */
+CALL(modem_no_key, curlewreel_modem_opening c = curlewreel_modem_open(m, CURLEWREEL_DOWN, ADDRESS, 1, NO_KEY, key, sizeof key, tek, 16,
+    vector, 16, up, sizeof up); m = c.modem; came = c.count;
+    wrong += c.number != CURLEWREEL_NO_KEY_FOR_FRAME || came == 0 || up[0] != CURLEWREEL_MESSAGE_KEY_REQUEST)
 
 /* The octet so far below a place. */
 static volatile uint8_t *below(uintptr_t top, size_t depth) { return (volatile uint8_t *)(top - depth); }
@@ -60,6 +73,16 @@ static size_t runs_of(uintptr_t top, uint8_t mark) {
 /* Keys as they are, and message keys as HMAC mixes them. */
 static size_t marks(uintptr_t top) { return runs_of(top, MARK) + runs_of(top, INNER) + runs_of(top, OUTER); }
 
+/* How many of the words behind HMAC's blocks there are. */
+static size_t words(uintptr_t top) {
+    size_t found = 0;
+    for (size_t at = NEAR; at < DEPTH; at++) {
+        uint8_t octets[4] = {*below(top, at), *below(top, at - 1), *below(top, at - 2), *below(top, at - 3)};
+        for (size_t i = 0; i < 2 * SHA1_WORDS; i++) found += memcmp(octets, &mixed[i / SHA1_WORDS][i % SHA1_WORDS], 4) == 0;
+    }
+    return found;
+}
+
 /* A call, how deep it goes, and how many keys it leaves before and after the wiping. */
 __attribute__((noinline)) static size_t tried(void (*call)(void)) {
     volatile uint8_t here = 0;
@@ -69,16 +92,29 @@ __attribute__((noinline)) static size_t tried(void (*call)(void)) {
     size_t depth = DEPTH - 1;
     while (depth > NEAR && *below(top, depth) == FILL) depth--;
     size_t left = marks(top);
+    words_left += words(top);
     curlewreel_wipe_stack();
-    wrong += marks(top);
+    wrong += marks(top) + words(top);
     if (depth > deepest) deepest = depth;
     return left;
+}
+
+/* The words of SHA-1 behind the block of a key that is mixed with `pad`. */
+static void words_of(uint32_t *sum, uint8_t pad) {
+    static const uint32_t start[SHA1_WORDS] = {0x67452301, 0xefcdab89, 0x98badcfe, 0x10325476, 0xc3d2e1f0};
+    uint8_t block[SHA1_BLOCK];
+    memset(block, pad, sizeof block);
+    for (size_t i = 0; i < sizeof key; i++) block[i] ^= key[i];
+    memcpy(sum, start, sizeof start);
+    sha1_block(sum, block);
 }
 
 int main(void) {
     size_t left = 0;
     memset(material, MARK, sizeof material);
     memset(key, MARK, sizeof key);
+    words_of(mixed[0], 0x36);
+    words_of(mixed[1], 0x5c);
     left += tried(headend_new) + tried(headend_list) + tried(modem_new) + tried(modem_established);
     message = up + CURLEWREEL_OCTETS_HEAD; /* behind the Authentication Information */
     left += tried(headend_receive) + tried(modem_receive);
@@ -87,20 +123,25 @@ int main(void) {
     size_t n = came;
     memcpy(requests, up, n);
     for (message = requests; message < requests + n; message += curlewreel_message_octets(message)) {
-        left += tried(headend_receive) + tried(modem_receive);
+        left += tried(headend_receive) + tried(read_again) + tried(write_again) + tried(modem_receive);
     }
+    wrong += fields[CURLEWREEL_FIELD_DIGEST_HOLDS] != CURLEWREEL_DIGEST_YES;
     left += tried(headend_seal) + tried(headend_open) + tried(modem_seal) + tried(modem_open);
+    message = up;
+    left += tried(headend_no_key) + tried(read_again) + tried(write_again) + tried(modem_receive); /* the modem asks for its pair */
+    left += tried(headend_receive) + tried(modem_receive);
+    left += tried(modem_no_key) + tried(headend_receive) + tried(modem_receive);
     left += tried(modem_reauth);
     message = up;
     left += tried(headend_receive) + tried(modem_receive); /* the machines go on: the deepest call */
     left += tried(headend_clock) + tried(modem_clock);
 
-    if (wrong > 0 || left == 0 || deepest > CURLEWREEL_OCTETS_STACK) {
-        printf("outside: stack: %zu octets at the deepest of %d, %zu keys left by calls, %zu calls refused or keys not wiped\n", deepest,
-               CURLEWREEL_OCTETS_STACK, left, wrong);
+    if (wrong > 0 || left == 0 || words_left == 0 || deepest > CURLEWREEL_OCTETS_STACK) {
+        printf("outside: stack: %zu octets at the deepest of %d, %zu keys and %zu words of HMAC left by calls, %zu wrong answers or keys not wiped\n",
+               deepest, CURLEWREEL_OCTETS_STACK, left, words_left, wrong);
         return 1;
     }
-    printf("outside: stack, %zu octets at the deepest of %d; %zu copies of keys left by calls, none after the wiping\n", deepest,
-           CURLEWREEL_OCTETS_STACK, left);
+    printf("outside: stack, %zu octets at the deepest of %d; %zu copies of keys and %zu words of HMAC left by calls, none after the wiping\n",
+           deepest, CURLEWREEL_OCTETS_STACK, left, words_left);
     return 0;
 }

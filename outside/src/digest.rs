@@ -88,7 +88,8 @@ pub fn hmac(key: &[u8], message: &[u8]) -> [u8; DIGEST] {
     Sum::of_block(&block.map(|o| o ^ 0x5c)).end(&inner)
 }
 
-/// The message key of what goes up under an AUTH-Key (document 000, 10).
+/// The message key of what goes up under an AUTH-Key (document 000, 11.4 and I.4.3). Both places say that the octet stands 63 times before it; only 64
+/// times, a whole block, give the keys that are printed there.
 pub fn up_key(auth_key: &[u8]) -> [u8; KEY] {
     Sum::of_block(&[0x5c; BLOCK]).end(auth_key)
 }
