@@ -133,20 +133,30 @@ tellOf kind.OpenDown fs = tellOpen kind.OpenDown fs
 
 -- ---- the names
 
--- The kind that a name says: "list", "clock", "established", "reauth", "up", "down", "sealdown", "sealup", "openup", "opendown"
+-- The kind of a frame's call that a name says: "sealdown", "sealup", "openup", "opendown"
+unfoldable pub frameNamed : List ℕ → Option Kind
+frameNamed f =
+    cond (sameOctets f (115 ∷ 101 ∷ 97 ∷ 108 ∷ 100 ∷ 111 ∷ 119 ∷ 110 ∷ [])) (some kind.SealDown)
+    (cond (sameOctets f (115 ∷ 101 ∷ 97 ∷ 108 ∷ 117 ∷ 112 ∷ [])) (some kind.SealUp)
+    (cond (sameOctets f (111 ∷ 112 ∷ 101 ∷ 110 ∷ 117 ∷ 112 ∷ [])) (some kind.OpenUp)
+    (cond (sameOctets f (111 ∷ 112 ∷ 101 ∷ 110 ∷ 100 ∷ 111 ∷ 119 ∷ 110 ∷ [])) (some kind.OpenDown)
+    none)))
+
+-- With those of a message, "up" and "down"
+unfoldable pub carriedNamed : List ℕ → Option Kind
+carriedNamed f =
+    cond (sameOctets f (117 ∷ 112 ∷ [])) (some kind.Up)
+    (cond (sameOctets f (100 ∷ 111 ∷ 119 ∷ 110 ∷ [])) (some kind.Down)
+    (frameNamed f))
+
+-- The kind that a name says: "list", "clock", "established", "reauth", or one of those above
 unfoldable pub kindNamed : List ℕ → Option Kind
 kindNamed f =
     cond (sameOctets f (108 ∷ 105 ∷ 115 ∷ 116 ∷ [])) (some kind.List)
     (cond (sameOctets f (99 ∷ 108 ∷ 111 ∷ 99 ∷ 107 ∷ [])) (some kind.Clock)
     (cond (sameOctets f (101 ∷ 115 ∷ 116 ∷ 97 ∷ 98 ∷ 108 ∷ 105 ∷ 115 ∷ 104 ∷ 101 ∷ 100 ∷ [])) (some kind.Established)
     (cond (sameOctets f (114 ∷ 101 ∷ 97 ∷ 117 ∷ 116 ∷ 104 ∷ [])) (some kind.Reauth)
-    (cond (sameOctets f (117 ∷ 112 ∷ [])) (some kind.Up)
-    (cond (sameOctets f (100 ∷ 111 ∷ 119 ∷ 110 ∷ [])) (some kind.Down)
-    (cond (sameOctets f (115 ∷ 101 ∷ 97 ∷ 108 ∷ 100 ∷ 111 ∷ 119 ∷ 110 ∷ [])) (some kind.SealDown)
-    (cond (sameOctets f (115 ∷ 101 ∷ 97 ∷ 108 ∷ 117 ∷ 112 ∷ [])) (some kind.SealUp)
-    (cond (sameOctets f (111 ∷ 112 ∷ 101 ∷ 110 ∷ 117 ∷ 112 ∷ [])) (some kind.OpenUp)
-    (cond (sameOctets f (111 ∷ 112 ∷ 101 ∷ 110 ∷ 100 ∷ 111 ∷ 119 ∷ 110 ∷ [])) (some kind.OpenDown)
-    none)))))))))
+    (carriedNamed f))))
 
 -- By its name, if it is one
 abbrev pub tellBy : Option Kind → List (List ℕ) → Option LineCall

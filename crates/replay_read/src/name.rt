@@ -1,7 +1,7 @@
 // The name of a call, the first field of its line.
 ghost use mathlib.Core.Path.{_≡_};
 ghost use mathlib.Core.Option.{some};
-ghost use Rattle.replay_read.specs.Call.{kindNamed};
+ghost use Rattle.replay_read.specs.Call.{kindNamed, carriedNamed, frameNamed};
 ghost use Rattle.replay_read.specs.CallPlaces.{namedFor};
 use crate::calls::Kind;
 use replay_fields::fields::same;
@@ -21,28 +21,10 @@ fn known(kind: Kind) -> Named
     }
 }
 
-// Which call a name is of.
-pub fn kind_named(name: &[u8]) -> Named
-    ensures { λ r. ⌜ r ≡ namedFor (kindNamed (now (name .entry))) ⌝ }
+// Which call of a frame a name is of: a sealing or an opening.
+fn frame_named(name: &[u8]) -> Named
+    ensures { λ r. ⌜ r ≡ namedFor (frameNamed (now (name .entry))) ⌝ }
 {
-    if same(name, b"list") {
-        return known(Kind::List);
-    }
-    if same(name, b"clock") {
-        return known(Kind::Clock);
-    }
-    if same(name, b"established") {
-        return known(Kind::Established);
-    }
-    if same(name, b"reauth") {
-        return known(Kind::Reauth);
-    }
-    if same(name, b"up") {
-        return known(Kind::Up);
-    }
-    if same(name, b"down") {
-        return known(Kind::Down);
-    }
     if same(name, b"sealdown") {
         return known(Kind::SealDown);
     }
@@ -59,4 +41,36 @@ pub fn kind_named(name: &[u8]) -> Named
         is_known: false,
         kind: Kind::Established,
     }
+}
+
+// Which call of a message or of a frame a name is of.
+fn carried_named(name: &[u8]) -> Named
+    ensures { λ r. ⌜ r ≡ namedFor (carriedNamed (now (name .entry))) ⌝ }
+{
+    if same(name, b"up") {
+        return known(Kind::Up);
+    }
+    if same(name, b"down") {
+        return known(Kind::Down);
+    }
+    frame_named(name)
+}
+
+// Which call a name is of.
+pub fn kind_named(name: &[u8]) -> Named
+    ensures { λ r. ⌜ r ≡ namedFor (kindNamed (now (name .entry))) ⌝ }
+{
+    if same(name, b"list") {
+        return known(Kind::List);
+    }
+    if same(name, b"clock") {
+        return known(Kind::Clock);
+    }
+    if same(name, b"established") {
+        return known(Kind::Established);
+    }
+    if same(name, b"reauth") {
+        return known(Kind::Reauth);
+    }
+    carried_named(name)
 }

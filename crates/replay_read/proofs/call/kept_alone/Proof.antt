@@ -10,7 +10,7 @@ kept-requires : tie.Need-kept-requires
 kept-requires c κs = search needs
 
 returns : tie.Need-returns
-returns c = cc
+returns c = simp (c .before .no-place .ensures) at (c .kept .ensures)
 
 pub kept-alone-spec : {M : Type 1} → statement M
 kept-alone-spec = tie.close (tie.spec no-place-requires kept-requires returns)

@@ -10,7 +10,7 @@ no-place-requires : tie.Need-no-place-requires
 no-place-requires c κs = search needs
 
 returns : tie.Need-returns
-returns c = cc
+returns c = simp (c .before .plain-call .ensures, c .no-place .ensures)
 
 pub no-call-spec : {M : Type 1} → statement M
 no-call-spec = tie.close (tie.spec plain-call-requires no-place-requires returns)
