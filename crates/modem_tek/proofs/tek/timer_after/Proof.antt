@@ -36,7 +36,7 @@ set-at-requires-3 c κs = search needs
 
 returns-3 : tie.Need-returns-3
 unfolding tekTimer
-returns-3 c = simp (ne-eqb _ _ (c .before .before .before .before .before .if1 .left), ne-eqb _ _ (c .before .before .before .before .if2 .left), eq-eqb _ _ (c .before .before .before .if3 .taken)) (cc)
+returns-3 c = simp (ne-eqb _ _ (c .before .before .before .before .before .if1 .left), ne-eqb _ _ (c .before .before .before .before .if2 .left), eq-eqb _ _ (c .before .before .before .if3 .taken)) (simp (c .before .before .difference .ensures) at (c .set-at3 .ensures))
 
 cleared-requires : tie.Need-cleared-requires
 cleared-requires c κs = search needs

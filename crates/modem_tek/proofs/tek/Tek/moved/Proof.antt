@@ -21,7 +21,14 @@ counter-after-requires c κs = search needs
 
 returns : tie.Need-returns
 unfolding tekMoved
-returns c = cc
+returns c =
+    simp (
+      c .before .before .before .before .identifier-after .ensures,
+      c .before .before .before .timer-after .ensures,
+      c .before .before .pair-after .ensures,
+      c .before .sends-after .ensures,
+      c .counter-after .ensures,
+    )
 
 pub moved-spec : {M : Type 1} → statement M
 moved-spec =

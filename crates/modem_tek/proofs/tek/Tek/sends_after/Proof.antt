@@ -13,7 +13,7 @@ identifier-after-requires c κs = search needs
 
 returns : tie.Need-returns
 unfolding tekSends
-returns c = simp (sym (c .before .before .before .is-sending .ensures) ∙ c .before .before .if1 .taken) (cc)
+returns c = simp (sym (c .before .before .before .is-sending .ensures) ∙ c .before .before .if1 .taken, c .identifier-after .ensures)
 
 no-request-requires : tie.Need-no-request-requires
 no-request-requires c κs = search needs

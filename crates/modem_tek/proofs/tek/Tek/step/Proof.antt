@@ -14,7 +14,7 @@ no-request-requires c κs = search needs
 
 returns : tie.Need-returns
 unfolding tekStepOf
-returns c = simp (eq-eqb _ _ (sym (c .before .before .tek-next .ensures) ∙ c .before .if1 .taken)) (cc)
+returns c = simp (eq-eqb _ _ (sym (c .before .before .tek-next .ensures) ∙ c .before .if1 .taken), c .no-request .ensures)
 
 moved-requires : tie.Need-moved-requires
 moved-requires c κs =
@@ -24,7 +24,7 @@ moved-requires c κs =
 returns-2 : tie.Need-returns-2
 unfolding tekStepOf
 returns-2 c = let to = c .before .before .tek-next .ensures in
-    simp (ne-eqb _ _ (λ e. c .before .if1 .left (to ∙ e))) (cc)
+    simp (ne-eqb _ _ (λ e. c .before .if1 .left (to ∙ e))) (simp to at (c .moved .ensures))
 
 pub step-spec : {M : Type 1} → statement M
 step-spec =
