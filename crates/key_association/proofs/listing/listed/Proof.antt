@@ -39,7 +39,7 @@ array-read-t16 c = search needs
 
 returns : tie.Need-returns
 unfolding freshOf
-returns c = cc
+returns c = simp (c .mint2 .ensures, c .before .mint .ensures, c .before .before .width .ensures .0)
 
 pub listed-spec : {M : Type 1} → statement M
 listed-spec =

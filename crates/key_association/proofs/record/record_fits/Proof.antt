@@ -27,7 +27,16 @@ deadlines-fit-requires c κs = search needs
 
 returns : tie.Need-returns
 unfolding recordFits
-returns c = cc
+returns c =
+    simp (
+      c .deadlines-fit .ensures,
+      c .before .is-next .ensures,
+      c .before .before .key-fits2 .ensures,
+      c .before .before .before .key-fits .ensures,
+      c .before .before .before .before .suite-known .ensures,
+      c .before .before .before .before .before .said-fits .ensures,
+      c .before .before .before .before .before .before .width .ensures .0,
+    )
 
 pub record-fits-spec : {M : Type 1} → statement M
 record-fits-spec =
