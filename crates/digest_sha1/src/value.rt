@@ -43,26 +43,31 @@ pub fn added(h: Hash, s: Hash) -> Hash
 pub fn octets(h: Hash) -> [u8; DIGEST_OCTETS]
     ensures { λ r. ⌜ r ≡ spec.octets h ⌝ }
 {
+    let a = h.a;
+    let b = h.b;
+    let c = h.c;
+    let d = h.d;
+    let e = h.e;
     [
-        (h.a / 16777216 % 256) as u8,
-        (h.a / 65536 % 256) as u8,
-        (h.a / 256 % 256) as u8,
-        (h.a % 256) as u8,
-        (h.b / 16777216 % 256) as u8,
-        (h.b / 65536 % 256) as u8,
-        (h.b / 256 % 256) as u8,
-        (h.b % 256) as u8,
-        (h.c / 16777216 % 256) as u8,
-        (h.c / 65536 % 256) as u8,
-        (h.c / 256 % 256) as u8,
-        (h.c % 256) as u8,
-        (h.d / 16777216 % 256) as u8,
-        (h.d / 65536 % 256) as u8,
-        (h.d / 256 % 256) as u8,
-        (h.d % 256) as u8,
-        (h.e / 16777216 % 256) as u8,
-        (h.e / 65536 % 256) as u8,
-        (h.e / 256 % 256) as u8,
-        (h.e % 256) as u8,
+        (a / 16777216 % 256) as u8,
+        (a / 65536 % 256) as u8,
+        (a / 256 % 256) as u8,
+        (a % 256) as u8,
+        (b / 16777216 % 256) as u8,
+        (b / 65536 % 256) as u8,
+        (b / 256 % 256) as u8,
+        (b % 256) as u8,
+        (c / 16777216 % 256) as u8,
+        (c / 65536 % 256) as u8,
+        (c / 256 % 256) as u8,
+        (c % 256) as u8,
+        (d / 16777216 % 256) as u8,
+        (d / 65536 % 256) as u8,
+        (d / 256 % 256) as u8,
+        (d % 256) as u8,
+        (e / 16777216 % 256) as u8,
+        (e / 65536 % 256) as u8,
+        (e / 256 % 256) as u8,
+        (e % 256) as u8,
     ]
 }

@@ -1,4 +1,4 @@
--- `compress::round` meets its contract: the calls joined by congruence.
+-- `compress::round` meets its contract: rewriting with what each call says.
 use borrow.Author.Needs.{needs}
 use Rattle.digest_sha1.proofs.compress.round.Statement.{statement}
 use Rattle.digest_sha1.proofs.compress.round.Tie as tie
@@ -22,7 +22,15 @@ rotl30-requires : tie.Need-rotl30-requires
 rotl30-requires c κs = search needs
 
 returns : tie.Need-returns
-returns c = cc
+returns c =
+    simp (
+      c .rotl30 .ensures,
+      c .before .plus4 .ensures,
+      c .before .before .plus3 .ensures,
+      c .before .before .before .plus2 .ensures,
+      c .before .before .before .before .plus .ensures,
+      c .before .before .before .before .before .rotl5 .ensures,
+    )
 
 pub round-spec : {M : Type 1} → statement M
 round-spec =

@@ -12,7 +12,7 @@ finish-requires c κs = search needs
 
 returns : tie.Need-returns
 unfolding sha1
-returns c = cc
+returns c = simp (c .before .initial .ensures) at (c .finish .ensures)
 
 pub sha1-spec : {M : Type 1} → statement M
 sha1-spec = tie.close (tie.spec initial-requires finish-requires returns)

@@ -1,4 +1,4 @@
--- `value::added` meets its contract: the calls joined by congruence.
+-- `value::added` meets its contract: rewriting with what each call says.
 use Rattle.digest_sha1.specs.Sha1.{added}
 use borrow.Author.Needs.{needs}
 use Rattle.digest_sha1.proofs.value.added.Statement.{statement}
@@ -21,7 +21,14 @@ plus-requires-5 c κs = search needs
 
 returns : tie.Need-returns
 unfolding added
-returns c = cc
+returns c =
+    simp (
+      c .plus5 .ensures,
+      c .before .plus4 .ensures,
+      c .before .before .plus3 .ensures,
+      c .before .before .before .plus2 .ensures,
+      c .before .before .before .before .plus .ensures,
+    )
 
 pub added-spec : {M : Type 1} → statement M
 added-spec =
