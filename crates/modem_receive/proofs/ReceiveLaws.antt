@@ -110,10 +110,13 @@ module _ (m : Modem) (f : Fields) (w : Progress) (i : ℕ) (r : Progress) (ew : 
   replied-there e =
       e ∙ ap (λ (v : Progress). deliverReply v i 8 (f .older) (f .newer)) ew ∙ ap (λ (k : ℕ). deliverReply (starting m) k 8 (f .older) (f .newer)) ei
 
-module _ (m : Modem) (f : Fields) (i : ℕ) (ei : i ≡ slotOfSaid m (f .said)) where
-  pub waits-there : (b : Bool) → b ≡ isWaiting (slotAt m i) → (b && eqb (slotAt m i .identifier) (f .identifier)) ≡ tekWaits m (f .said) (f .identifier)
-  waits-there b e = ap (λ (c : Bool). c && eqb (slotAt m i .identifier) (f .identifier)) e ∙ ap (λ (k : ℕ). isWaiting (slotAt m k) && eqb (slotAt m k .identifier) (f .identifier)) ei
+pub waits-there : (m : Modem) (said identifier i : ℕ) → i ≡ slotOfSaid m said → (b : Bool) → b ≡ isWaiting (slotAt m i)
+    → (b && eqb (slotAt m i .identifier) identifier) ≡ tekWaits m said identifier
+waits-there m said identifier i ei b e =
+    ap (λ (c : Bool). c && eqb (slotAt m i .identifier) identifier) e
+    ∙ ap (λ (k : ℕ). isWaiting (slotAt m k) && eqb (slotAt m k .identifier) identifier) ei
 
+module _ (m : Modem) (f : Fields) (i : ℕ) (ei : i ≡ slotOfSaid m (f .said)) where
   pub wide-there : (w : ℕ) (p q : Bool) → w ≡ widthOf (slotAt m i .suite) → p ≡ paramsWide w (f .older) → q ≡ paramsWide w (f .newer)
       → (p && q) ≡ (paramsWide (widthOf (slotAt m (slotOfSaid m (f .said)) .suite)) (f .older) && paramsWide (widthOf (slotAt m (slotOfSaid m (f .said)) .suite)) (f .newer))
   wide-there w p q ew ep eq =

@@ -3,7 +3,8 @@ ghost use mathlib.Core.Path.{_≡_};
 ghost use Prim.Native.Nat.{_<_};
 ghost use mathlib.Core.Bool.{true};
 ghost use Rattle.modem_steps.specs.State.{Ready};
-ghost use Rattle.modem_receive.specs.Receive.{ofSaid, paramsWide, widthsFit, saidKnown, authWaits, identifierFits, digestHolds, Takeable, received};
+ghost use Rattle.modem_steps.specs.Slots.{slotOfSaid};
+ghost use Rattle.modem_receive.specs.Receive.{ofSaid, paramsWide, widthsFit, saidKnown, authWaits, tekWaits, identifierFits, digestHolds, Takeable, received};
 use crate::events::invalidated;
 use crate::events::rejected;
 use key_traffic::suites::width;
@@ -80,6 +81,16 @@ fn is_auth_waiting(m: Modem, identifier: u8) -> bool
     ((a.state == AUTH_WAIT) | (a.state == AUTH_REAUTH_WAIT)) & (a.identifier == identifier)
 }
 
+// Whether the TEK machine of a SAID that has a slot waits for an answer with this Identifier.
+fn is_tek_waiting(m: Modem, said: u16, identifier: u8) -> bool
+    requires { ⌜ slotOfSaid m said < 4 ⌝ }
+    ensures { λ r. ⌜ r ≡ tekWaits m said identifier ⌝ }
+{
+    let i = slot_of_said(m, said);
+    let t = m.teks[i];
+    is_waiting(t) & (t.identifier == identifier)
+}
+
 // Question 11: the Identifier is that of the request that waits, or UNSOLICITED where none may.
 pub fn identifier_fits(m: Modem, f: Fields) -> bool
     requires { ⌜ saidKnown m f ≡ true ⌝ }
@@ -88,11 +99,7 @@ pub fn identifier_fits(m: Modem, f: Fields) -> bool
     let code = f.code;
     match code {
         CODE_AUTHORIZATION_REPLY..=CODE_AUTHORIZATION_REJECT => is_auth_waiting(m, f.identifier),
-        CODE_KEY_REPLY..=CODE_KEY_REJECT => {
-            let i = slot_of_said(m, f.said);
-            let t = m.teks[i];
-            is_waiting(t) & (t.identifier == f.identifier)
-        }
+        CODE_KEY_REPLY..=CODE_KEY_REJECT => is_tek_waiting(m, f.said, f.identifier),
         CODE_AUTHORIZATION_INVALID => (f.identifier == UNSOLICITED)
             | (slot_asking(m, f.identifier) < NO_SLOT),
         _ => f.identifier == UNSOLICITED,

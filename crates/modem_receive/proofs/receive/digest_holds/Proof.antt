@@ -9,7 +9,7 @@ is-of-said-requires c κs = search needs
 
 returns : tie.Need-returns
 unfolding digestHolds
-returns c = cc
+returns c = simp (c .is-of-said .ensures)
 
 pub digest-holds-spec : {M : Type 1} → statement M
 digest-holds-spec = tie.close (tie.spec is-of-said-requires returns)
