@@ -39,8 +39,14 @@ reply-answer-requires c κs = search needs
 returns-3 : tie.Need-returns-3
 returns-3 c =
     let x = c .before .before .before .before .before .before .before .before .before .before .before .before .before .args in
-    let made : _ = request-allowed (x .h) (x .k) (x .identifier) (not-false _ (c .before .before .before .before .before .before .before .before .before .before .if1 .left)) (ne-eqb _ _ (c .before .before .before .before .before .before .before .before .if2 .left)) in
-    cc
+    let made = request-allowed (x .h) (x .k) (x .identifier) (not-false _ (c .before .before .before .before .before .before .before .before .before .before .if1 .left)) (ne-eqb _ _ (c .before .before .before .before .before .before .before .before .if2 .left)) in
+    simp (
+      c .reply-answer .ensures,
+      c .before .with-entry .ensures,
+      c .before .before .with-keys .ensures,
+      c .before .before .before .granted .ensures,
+    )
+    (sym made)
 
 pub request-reaction-spec : {M : Type 1} → statement M
 request-reaction-spec =

@@ -10,7 +10,7 @@ no-descriptors-requires : tie.Need-no-descriptors-requires
 no-descriptors-requires c κs = search needs
 
 returns : tie.Need-returns
-returns c = cc
+returns c = simp (c .no-descriptors .ensures, c .before .no-params .ensures)
 
 pub error-answer-spec : {M : Type 1} → statement M
 error-answer-spec = tie.close (tie.spec no-params-requires no-descriptors-requires returns)

@@ -25,7 +25,16 @@ difference-requires : tie.Need-difference-requires
 difference-requires c κs = search needs
 
 returns : tie.Need-returns
-returns c = cc
+returns c =
+    simp (
+      c .difference .ensures,
+      c .before .newest .ensures,
+      c .before .before .descriptor-at4 .ensures,
+      c .before .before .before .descriptor-at3 .ensures,
+      c .before .before .before .before .descriptor-at2 .ensures,
+      c .before .before .before .before .before .descriptor-at .ensures,
+      c .before .before .before .before .before .before .no-params .ensures,
+    )
 
 pub reply-answer-spec : {M : Type 1} → statement M
 reply-answer-spec =
