@@ -13,7 +13,7 @@ carried-or-requires : tie.Need-carried-or-requires
 carried-or-requires c κs = search needs
 
 returns : tie.Need-returns
-returns c = cc
+returns c = simp (c .carried-or .ensures, c .before .before .ak-in-range .ensures, c .before .before .before .is-required .ensures)
 
 pub ak-fits-spec : {M : Type 1} → statement M
 ak-fits-spec =

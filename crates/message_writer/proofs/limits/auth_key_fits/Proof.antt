@@ -9,7 +9,7 @@ is-required-requires c κs = search needs
 
 returns : tie.Need-returns
 unfolding authKeyFits
-returns c = cc
+returns c = simp (c .is-required .ensures)
 
 pub auth-key-fits-spec : {M : Type 1} → statement M
 auth-key-fits-spec = tie.close (tie.spec is-required-requires returns)

@@ -9,7 +9,7 @@ suite-known-requires c κs = search needs
 
 returns : tie.Need-returns
 unfolding descriptorFit
-returns c = cc
+returns c = simp (c .suite-known .ensures)
 
 pub descriptor-fit-spec : {M : Type 1} → statement M
 descriptor-fit-spec = tie.close (tie.spec suite-known-requires returns)

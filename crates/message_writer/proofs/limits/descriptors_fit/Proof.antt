@@ -21,7 +21,14 @@ saids-differ-requires c κs = search needs
 
 returns : tie.Need-returns
 unfolding descriptorsFit
-returns c = cc
+returns c =
+    simp (
+      c .saids-differ .ensures,
+      c .before .place-fit4 .ensures,
+      c .before .before .place-fit3 .ensures,
+      c .before .before .before .place-fit2 .ensures,
+      c .before .before .before .before .place-fit .ensures,
+    )
 
 pub descriptors-fit-spec : {M : Type 1} → statement M
 descriptors-fit-spec =

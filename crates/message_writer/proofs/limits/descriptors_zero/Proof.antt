@@ -18,7 +18,13 @@ place-fit-requires-4 c κs = search needs
 
 returns : tie.Need-returns
 unfolding descriptorsZero
-returns c = cc
+returns c =
+    simp (
+      c .place-fit4 .ensures,
+      c .before .place-fit3 .ensures,
+      c .before .before .place-fit2 .ensures,
+      c .before .before .before .place-fit .ensures,
+    )
 
 pub descriptors-zero-spec : {M : Type 1} → statement M
 descriptors-zero-spec =

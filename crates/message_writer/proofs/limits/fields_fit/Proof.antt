@@ -27,7 +27,16 @@ keys-fit-requires c κs = search needs
 
 returns : tie.Need-returns
 unfolding fieldsFit
-returns c = cc
+returns c =
+    simp (
+      c .keys-fit .ensures,
+      c .before .list-fits .ensures,
+      c .before .before .error-fits .ensures,
+      c .before .before .before .life-fits .ensures,
+      c .before .before .before .before .said-fits .ensures,
+      c .before .before .before .before .before .ak-fits .ensures,
+      c .before .before .before .before .before .before .head-fits .ensures,
+    )
 
 pub fields-fit-spec : {M : Type 1} → statement M
 fields-fit-spec =

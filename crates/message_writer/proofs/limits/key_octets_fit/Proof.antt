@@ -12,7 +12,7 @@ zero-past-requires c κs = search needs
 
 returns : tie.Need-returns
 unfolding keyOctetsFit
-returns c = cc
+returns c = simp (c .zero-past .ensures, c .before .width-known .ensures)
 
 pub key-octets-fit-spec : {M : Type 1} → statement M
 key-octets-fit-spec = tie.close (tie.spec width-known-requires zero-past-requires returns)

@@ -9,7 +9,7 @@ zero-past-requires c κs = search needs
 
 returns : tie.Need-returns
 unfolding keyOctetsZero
-returns c = cc
+returns c = simp (c .zero-past .ensures)
 
 pub key-octets-zero-spec : {M : Type 1} → statement M
 key-octets-zero-spec = tie.close (tie.spec zero-past-requires returns)

@@ -19,7 +19,14 @@ carried-or-requires : tie.Need-carried-or-requires
 carried-or-requires c κs = search needs
 
 returns : tie.Need-returns
-returns c = cc
+returns c =
+    simp (
+      c .carried-or .ensures,
+      c .before .params-zero2 .ensures,
+      c .before .before .params-zero .ensures,
+      c .before .before .before .pair-fit .ensures,
+      c .before .before .before .before .is-required .ensures,
+    )
 
 pub keys-fit-spec : {M : Type 1} → statement M
 keys-fit-spec =

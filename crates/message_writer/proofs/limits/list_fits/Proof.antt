@@ -16,7 +16,13 @@ carried-or-requires : tie.Need-carried-or-requires
 carried-or-requires c κs = search needs
 
 returns : tie.Need-returns
-returns c = cc
+returns c =
+    simp (
+      c .carried-or .ensures,
+      c .before .descriptors-zero .ensures,
+      c .before .before .descriptors-fit .ensures,
+      c .before .before .before .is-required .ensures,
+    )
 
 pub list-fits-spec : {M : Type 1} → statement M
 list-fits-spec =

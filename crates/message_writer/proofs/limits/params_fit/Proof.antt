@@ -15,7 +15,7 @@ key-octets-fit-requires-2 c κs = search needs
 
 returns : tie.Need-returns
 unfolding paramsFit
-returns c = cc
+returns c = simp (c .key-octets-fit2 .ensures, c .before .key-octets-fit .ensures, c .before .before .before .before .tek-in-range .ensures)
 
 pub params-fit-spec : {M : Type 1} → statement M
 params-fit-spec =

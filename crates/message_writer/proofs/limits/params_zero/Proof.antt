@@ -12,7 +12,7 @@ key-octets-zero-requires-2 c κs = search needs
 
 returns : tie.Need-returns
 unfolding paramsZero
-returns c = cc
+returns c = simp (c .key-octets-zero2 .ensures, c .before .key-octets-zero .ensures)
 
 pub params-zero-spec : {M : Type 1} → statement M
 params-zero-spec = tie.close (tie.spec key-octets-zero-requires key-octets-zero-requires-2 returns)

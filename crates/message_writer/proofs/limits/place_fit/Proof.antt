@@ -21,7 +21,7 @@ carried-or-requires c κs = search needs
 
 returns : tie.Need-returns
 unfolding placeFit
-returns c = cc
+returns c = simp (c .carried-or .ensures, c .before .descriptor-zero .ensures, c .before .before .descriptor-fit .ensures)
 
 pub place-fit-spec : {M : Type 1} → statement M
 place-fit-spec =
