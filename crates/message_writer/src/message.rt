@@ -116,28 +116,29 @@ fn put_body(f: Fields, key: &[u8], digest: &[u8], out: &mut [u8]) -> usize
     requires { ⌜ Writable f (length (now key)) ⌝ }
     ensures { λ r. ⌜ Wrote (now (out .entry)) 4 (itemsOf f (now (key .entry)) (now (digest .entry))) r (now (out .exit)) ⌝ }
 {
-    if f.code == CODE_AUTHORIZATION_REQUEST {
+    let code = f.code;
+    if code == CODE_AUTHORIZATION_REQUEST {
         return put_two(out, HEAD_OCTETS, TYPE_SAID, f.said);
     }
-    if f.code == CODE_AUTHORIZATION_REPLY {
+    if code == CODE_AUTHORIZATION_REPLY {
         return put_reply(out, f, key);
     }
-    if f.code == CODE_AUTHORIZATION_REJECT {
+    if code == CODE_AUTHORIZATION_REJECT {
         return put_one(out, HEAD_OCTETS, TYPE_ERROR, f.error);
     }
-    if f.code == CODE_KEY_REQUEST {
+    if code == CODE_KEY_REQUEST {
         return put_key_request(out, f, digest);
     }
-    if f.code == CODE_KEY_REPLY {
+    if code == CODE_KEY_REPLY {
         return put_key_reply(out, f, digest);
     }
-    if f.code == CODE_KEY_REJECT {
+    if code == CODE_KEY_REJECT {
         return put_key_error(out, f, digest);
     }
-    if f.code == CODE_AUTHORIZATION_INVALID {
+    if code == CODE_AUTHORIZATION_INVALID {
         return put_one(out, HEAD_OCTETS, TYPE_ERROR, f.error);
     }
-    if f.code == CODE_TEK_INVALID {
+    if code == CODE_TEK_INVALID {
         return put_key_error(out, f, digest);
     }
     // Authentication Information has none.

@@ -3,7 +3,6 @@ use mathlib.Core.Path.{_≡_}
 use denote.Ref.{now}
 use borrow.Author.Needs.{needs}
 use Rattle.message_parts.proofs.CodeLaws.{key-short, last-code, items-4, items-5, items-6, items-7, items-8, items-9, items-10, items-11, items-12}
-use Rattle.message_parts.proofs.CodeLaws.{key-short, items-4, items-5, items-6, items-7, items-8, items-9, items-10, items-11, items-12}
 use Rattle.message_parts.proofs.Stores.{wrote-as, wrote-none}
 use Rattle.message_writer.proofs.message.put_body.Statement.{statement}
 use Rattle.message_writer.proofs.message.put_body.Tie as tie
@@ -15,16 +14,16 @@ same-length : tie.Need-same-length
 same-length c = search needs
 
 returns : tie.Need-returns
-returns c = wrote-as (items-4 (c .before .before .before .before .before .before .before .before .before .args .f) (now (c .before .before .before .before .before .before .before .before .before .args .key)) (now (c .before .before .before .before .before .before .before .before .before .args .digest)) (c .before .before .before .before .if1 .taken)) (c .before .before .put-two .ensures .0)
+returns c = wrote-as (items-4 (c .before .before .before .before .before .before .before .before .args .f) (now (c .before .before .before .before .before .before .before .before .args .key)) (now (c .before .before .before .before .before .before .before .before .args .digest)) (c .before .before .before .before .if1 .taken)) (c .before .before .put-two .ensures .0)
 
 put-reply-requires : tie.Need-put-reply-requires
-put-reply-requires c κs = key-short (c .before .before .before .before .before .before .before .before .args .f) _ (c .before .if2 .taken) (c .before .before .before .before .before .before .before .before .pre .key)
+put-reply-requires c κs = key-short (c .before .before .before .before .before .before .args .f) _ (c .before .if2 .taken) (c .before .before .before .before .before .before .pre .key)
 
 same-length-2 : tie.Need-same-length-2
 same-length-2 c = search needs
 
 returns-2 : tie.Need-returns-2
-returns-2 c = wrote-as (items-5 (c .before .before .before .before .before .before .before .before .before .before .before .args .f) (now (c .before .before .before .before .before .before .before .before .before .before .before .args .key)) (now (c .before .before .before .before .before .before .before .before .before .before .before .args .digest)) (c .before .before .before .before .if2 .taken)) (c .before .before .put-reply .ensures)
+returns-2 c = wrote-as (items-5 (c .before .before .before .before .before .before .before .before .before .args .f) (now (c .before .before .before .before .before .before .before .before .before .args .key)) (now (c .before .before .before .before .before .before .before .before .before .args .digest)) (c .before .before .before .before .if2 .taken)) (c .before .before .put-reply .ensures)
 
 put-one-requires : tie.Need-put-one-requires
 put-one-requires c κs = search needs
@@ -33,7 +32,7 @@ same-length-3 : tie.Need-same-length-3
 same-length-3 c = search needs
 
 returns-3 : tie.Need-returns-3
-returns-3 c = wrote-as (items-6 (c .before .before .before .before .before .before .before .before .before .before .before .before .before .args .f) (now (c .before .before .before .before .before .before .before .before .before .before .before .before .before .args .key)) (now (c .before .before .before .before .before .before .before .before .before .before .before .before .before .args .digest)) (c .before .before .before .before .if3 .taken)) (c .before .before .put-one .ensures .0)
+returns-3 c = wrote-as (items-6 (c .before .before .before .before .before .before .before .before .before .before .args .f) (now (c .before .before .before .before .before .before .before .before .before .before .args .key)) (now (c .before .before .before .before .before .before .before .before .before .before .args .digest)) (c .before .before .before .before .if3 .taken)) (c .before .before .put-one .ensures .0)
 
 put-key-request-requires : tie.Need-put-key-request-requires
 put-key-request-requires c κs = search needs
@@ -42,7 +41,7 @@ same-length-4 : tie.Need-same-length-4
 same-length-4 c = search needs
 
 returns-4 : tie.Need-returns-4
-returns-4 c = wrote-as (items-7 (c .before .before .before .before .before .before .before .before .before .before .before .before .before .before .before .args .f) (now (c .before .before .before .before .before .before .before .before .before .before .before .before .before .before .before .args .key)) (now (c .before .before .before .before .before .before .before .before .before .before .before .before .before .before .before .args .digest)) (c .before .before .before .before .if4 .taken)) (c .before .before .put-key-request .ensures)
+returns-4 c = wrote-as (items-7 (c .before .before .before .before .before .before .before .before .before .before .before .args .f) (now (c .before .before .before .before .before .before .before .before .before .before .before .args .key)) (now (c .before .before .before .before .before .before .before .before .before .before .before .args .digest)) (c .before .before .before .before .if4 .taken)) (c .before .before .put-key-request .ensures)
 
 put-key-reply-requires : tie.Need-put-key-reply-requires
 put-key-reply-requires c κs = search needs
@@ -51,7 +50,7 @@ same-length-5 : tie.Need-same-length-5
 same-length-5 c = search needs
 
 returns-5 : tie.Need-returns-5
-returns-5 c = wrote-as (items-8 (c .before .before .before .before .before .before .before .before .before .before .before .before .before .before .before .before .before .args .f) (now (c .before .before .before .before .before .before .before .before .before .before .before .before .before .before .before .before .before .args .key)) (now (c .before .before .before .before .before .before .before .before .before .before .before .before .before .before .before .before .before .args .digest)) (c .before .before .before .before .if5 .taken)) (c .before .before .put-key-reply .ensures)
+returns-5 c = wrote-as (items-8 (c .before .before .before .before .before .before .before .before .before .before .before .before .args .f) (now (c .before .before .before .before .before .before .before .before .before .before .before .before .args .key)) (now (c .before .before .before .before .before .before .before .before .before .before .before .before .args .digest)) (c .before .before .before .before .if5 .taken)) (c .before .before .put-key-reply .ensures)
 
 put-key-error-requires : tie.Need-put-key-error-requires
 put-key-error-requires c κs = search needs
@@ -60,7 +59,7 @@ same-length-6 : tie.Need-same-length-6
 same-length-6 c = search needs
 
 returns-6 : tie.Need-returns-6
-returns-6 c = wrote-as (items-9 (c .before .before .before .before .before .before .before .before .before .before .before .before .before .before .before .before .before .before .before .args .f) (now (c .before .before .before .before .before .before .before .before .before .before .before .before .before .before .before .before .before .before .before .args .key)) (now (c .before .before .before .before .before .before .before .before .before .before .before .before .before .before .before .before .before .before .before .args .digest)) (c .before .before .before .before .if6 .taken)) (c .before .before .put-key-error .ensures)
+returns-6 c = wrote-as (items-9 (c .before .before .before .before .before .before .before .before .before .before .before .before .before .args .f) (now (c .before .before .before .before .before .before .before .before .before .before .before .before .before .args .key)) (now (c .before .before .before .before .before .before .before .before .before .before .before .before .before .args .digest)) (c .before .before .before .before .if6 .taken)) (c .before .before .put-key-error .ensures)
 
 put-one-requires-2 : tie.Need-put-one-requires-2
 put-one-requires-2 c κs = search needs
@@ -69,7 +68,7 @@ same-length-7 : tie.Need-same-length-7
 same-length-7 c = search needs
 
 returns-7 : tie.Need-returns-7
-returns-7 c = wrote-as (items-10 (c .before .before .before .before .before .before .before .before .before .before .before .before .before .before .before .before .before .before .before .before .before .args .f) (now (c .before .before .before .before .before .before .before .before .before .before .before .before .before .before .before .before .before .before .before .before .before .args .key)) (now (c .before .before .before .before .before .before .before .before .before .before .before .before .before .before .before .before .before .before .before .before .before .args .digest)) (c .before .before .before .before .if7 .taken)) (c .before .before .put-one2 .ensures .0)
+returns-7 c = wrote-as (items-10 (c .before .before .before .before .before .before .before .before .before .before .before .before .before .before .args .f) (now (c .before .before .before .before .before .before .before .before .before .before .before .before .before .before .args .key)) (now (c .before .before .before .before .before .before .before .before .before .before .before .before .before .before .args .digest)) (c .before .before .before .before .if7 .taken)) (c .before .before .put-one2 .ensures .0)
 
 put-key-error-requires-2 : tie.Need-put-key-error-requires-2
 put-key-error-requires-2 c κs = search needs
@@ -78,11 +77,11 @@ same-length-8 : tie.Need-same-length-8
 same-length-8 c = search needs
 
 returns-8 : tie.Need-returns-8
-returns-8 c = wrote-as (items-11 (c .before .before .before .before .before .before .before .before .before .before .before .before .before .before .before .before .before .before .before .before .before .before .before .args .f) (now (c .before .before .before .before .before .before .before .before .before .before .before .before .before .before .before .before .before .before .before .before .before .before .before .args .key)) (now (c .before .before .before .before .before .before .before .before .before .before .before .before .before .before .before .before .before .before .before .before .before .before .before .args .digest)) (c .before .before .before .before .if8 .taken)) (c .before .before .put-key-error2 .ensures)
+returns-8 c = wrote-as (items-11 (c .before .before .before .before .before .before .before .before .before .before .before .before .before .before .before .args .f) (now (c .before .before .before .before .before .before .before .before .before .before .before .before .before .before .before .args .key)) (now (c .before .before .before .before .before .before .before .before .before .before .before .before .before .before .before .args .digest)) (c .before .before .before .before .if8 .taken)) (c .before .before .put-key-error2 .ensures)
 
 returns-9 : tie.Need-returns-9
-returns-9 c = let e : c .before .before .before .before .before .before .before .before .before .before .before .before .before .before .before .before .before .before .before .args .f .code ≡ 12 = last-code (c .before .before .before .before .before .before .before .before .before .before .before .before .before .before .before .before .before .before .before .pre .low) (c .before .before .before .before .before .before .before .before .before .before .before .before .before .before .before .before .before .before .before .pre .high) (c .before .before .before .before .before .before .before .before .before .before .before .before .before .before .if1 .left) (c .before .before .before .before .before .before .before .before .before .before .before .before .if2 .left) (c .before .before .before .before .before .before .before .before .before .before .if3 .left) (c .before .before .before .before .before .before .before .before .if4 .left) (c .before .before .before .before .before .before .if5 .left) (c .before .before .before .before .if6 .left) (c .before .before .if7 .left) (c .if8 .left) in
-    wrote-as (items-12 (c .before .before .before .before .before .before .before .before .before .before .before .before .before .before .before .before .before .before .before .args .f) (now (c .before .before .before .before .before .before .before .before .before .before .before .before .before .before .before .before .before .before .before .args .key)) (now (c .before .before .before .before .before .before .before .before .before .before .before .before .before .before .before .before .before .before .before .args .digest)) e) (wrote-none _ 4)
+returns-9 c = let e : c .before .before .before .before .before .before .before .before .before .before .before .args .f .code ≡ 12 = last-code (c .before .before .before .before .before .before .before .before .before .before .before .pre .low) (c .before .before .before .before .before .before .before .before .before .before .before .pre .high) (c .before .before .before .before .before .before .before .if1 .left) (c .before .before .before .before .before .before .if2 .left) (c .before .before .before .before .before .if3 .left) (c .before .before .before .before .if4 .left) (c .before .before .before .if5 .left) (c .before .before .if6 .left) (c .before .if7 .left) (c .if8 .left) in
+    wrote-as (items-12 (c .before .before .before .before .before .before .before .before .before .before .before .args .f) (now (c .before .before .before .before .before .before .before .before .before .before .before .args .key)) (now (c .before .before .before .before .before .before .before .before .before .before .before .args .digest)) e) (wrote-none _ 4)
 
 pub put-body-spec : {M : Type 1} → statement M
 put-body-spec =
