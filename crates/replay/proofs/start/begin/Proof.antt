@@ -10,7 +10,7 @@ fresh-ends-requires : tie.Need-fresh-ends-requires
 fresh-ends-requires c κs = search needs
 
 returns : tie.Need-returns
-returns c = cc
+returns c = simp (c .fresh-ends .ensures, c .before .no-settings .ensures)
 
 pub begin-spec : {M : Type 1} → statement M
 begin-spec = tie.close (tie.spec no-settings-requires fresh-ends-requires returns)

@@ -16,7 +16,7 @@ is-done-requires-2 : tie.Need-is-done-requires-2
 is-done-requires-2 c κs = search needs
 
 returns : tie.Need-returns
-returns c = cc
+returns c = simp (c .is-done2 .ensures, c .before .is-done .ensures, c .before .before .new2 .ensures, c .before .before .before .new .ensures)
 
 pub both-fit-spec : {M : Type 1} → statement M
 both-fit-spec =

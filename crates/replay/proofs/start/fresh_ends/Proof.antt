@@ -13,7 +13,7 @@ blank-record-requires : tie.Need-blank-record-requires
 blank-record-requires c κs = search needs
 
 returns : tie.Need-returns
-returns c = cc
+returns c = simp (c .blank-record .ensures, c .before .fresh2 .ensures, c .before .before .fresh .ensures)
 
 pub fresh-ends-spec : {M : Type 1} → statement M
 fresh-ends-spec =
