@@ -103,13 +103,10 @@ fn read_list(line: &[u8], c: Cuts) -> ReadCall
     requires { ⌜ (length (now line) ≤ 16384) × Cut (now line) c ⌝ }
     ensures { λ r. ⌜ Reads (now (line .entry)) (tellList (fieldsOf (now (line .entry)))) r ⌝ }
 {
-    let first = c.first;
-    let second = c.second;
-    let third = c.third;
-    let address = number_of(line, first);
-    let allowed = flag_of(line, second);
-    let material = octets_of(line, third);
-    let named = pairs_from(line, third.end + 1);
+    let address = number_of(line, c.first);
+    let allowed = flag_of(line, c.second);
+    let material = octets_of(line, c.third);
+    let named = pairs_from(line, c.third.end + 1);
     let is_call = (LIST_FIELDS_MIN <= c.count)
         & address.fits
         & allowed.fits
@@ -126,27 +123,21 @@ fn read_list(line: &[u8], c: Cuts) -> ReadCall
         number: tek,
         listing: listing,
     };
-    let place = material.place;
     let none = no_place();
-    kept(is_call, call, place, none, none, none)
+    kept(is_call, call, material.place, none, none, none)
 }
 
 fn read_clock(line: &[u8], c: Cuts) -> ReadCall
     requires { ⌜ Cut (now line) c ⌝ }
     ensures { λ r. ⌜ Reads (now (line .entry)) (tellClock (fieldsOf (now (line .entry)))) r ⌝ }
 {
-    let first = c.first;
-    let second = c.second;
-    let third = c.third;
-    let at = number_of(line, first);
-    let material = octets_of(line, second);
-    let write = octets_of(line, third);
+    let at = number_of(line, c.first);
+    let material = octets_of(line, c.second);
+    let write = octets_of(line, c.third);
     let is_call = (c.count == CLOCK_FIELDS) & at.fits & material.fits & write.fits;
     let call = plain_call(Kind::Clock, 0, 0, at.value, 0, 0);
-    let place = material.place;
     let none = no_place();
-    let write_place = write.place;
-    kept(is_call, call, place, none, none, write_place)
+    kept(is_call, call, material.place, none, none, write.place)
 }
 
 // A name alone.
@@ -162,16 +153,11 @@ fn read_up(line: &[u8], c: Cuts) -> ReadCall
     requires { ⌜ Cut (now line) c ⌝ }
     ensures { λ r. ⌜ Reads (now (line .entry)) (tellUp (fieldsOf (now (line .entry)))) r ⌝ }
 {
-    let first = c.first;
-    let second = c.second;
-    let third = c.third;
-    let fourth = c.fourth;
-    let fifth = c.fifth;
-    let address = number_of(line, first);
-    let read = octets_of(line, second);
-    let write = octets_of(line, third);
-    let auth = octets_of(line, fourth);
-    let octets = octets_of(line, fifth);
+    let address = number_of(line, c.first);
+    let read = octets_of(line, c.second);
+    let write = octets_of(line, c.third);
+    let auth = octets_of(line, c.fourth);
+    let octets = octets_of(line, c.fifth);
     let is_call = (c.count == UP_FIELDS)
         & address.fits
         & read.fits
@@ -179,39 +165,41 @@ fn read_up(line: &[u8], c: Cuts) -> ReadCall
         & auth.fits
         & octets.fits;
     let call = plain_call(Kind::Up, address.value, 0, 0, 0, 0);
-    let place = octets.place;
-    let auth_place = auth.place;
-    let read_place = read.place;
-    let write_place = write.place;
-    kept(is_call, call, place, auth_place, read_place, write_place)
+    kept(
+        is_call,
+        call,
+        octets.place,
+        auth.place,
+        read.place,
+        write.place,
+    )
 }
 
 fn read_down(line: &[u8], c: Cuts) -> ReadCall
     requires { ⌜ Cut (now line) c ⌝ }
     ensures { λ r. ⌜ Reads (now (line .entry)) (tellDown (fieldsOf (now (line .entry)))) r ⌝ }
 {
-    let first = c.first;
-    let second = c.second;
-    let third = c.third;
-    let read = octets_of(line, first);
-    let write = octets_of(line, second);
-    let octets = octets_of(line, third);
+    let read = octets_of(line, c.first);
+    let write = octets_of(line, c.second);
+    let octets = octets_of(line, c.third);
     let is_call = (c.count == DOWN_FIELDS) & read.fits & write.fits & octets.fits;
     let call = plain_call(Kind::Down, 0, 0, 0, 0, 0);
-    let place = octets.place;
-    let read_place = read.place;
-    let write_place = write.place;
-    kept(is_call, call, place, no_place(), read_place, write_place)
+    kept(
+        is_call,
+        call,
+        octets.place,
+        no_place(),
+        read.place,
+        write.place,
+    )
 }
 
 fn read_seal_down(line: &[u8], c: Cuts) -> ReadCall
     requires { ⌜ Cut (now line) c ⌝ }
     ensures { λ r. ⌜ Reads (now (line .entry)) (tellSealDown (fieldsOf (now (line .entry)))) r ⌝ }
 {
-    let first = c.first;
-    let second = c.second;
-    let address = number_of(line, first);
-    let said = number_of(line, second);
+    let address = number_of(line, c.first);
+    let said = number_of(line, c.second);
     let is_call = (c.count == SEAL_DOWN_FIELDS) & address.fits & said.fits;
     let call = plain_call(Kind::SealDown, address.value, 0, 0, to_u16(said.value), 0);
     kept_alone(is_call, call)
@@ -221,8 +209,7 @@ fn read_seal_up(line: &[u8], c: Cuts) -> ReadCall
     requires { ⌜ Cut (now line) c ⌝ }
     ensures { λ r. ⌜ Reads (now (line .entry)) (tellSealUp (fieldsOf (now (line .entry)))) r ⌝ }
 {
-    let first = c.first;
-    let said = number_of(line, first);
+    let said = number_of(line, c.first);
     let is_call = (c.count == SEAL_UP_FIELDS) & said.fits;
     let call = plain_call(Kind::SealUp, 0, 0, 0, to_u16(said.value), 0);
     kept_alone(is_call, call)
@@ -232,16 +219,11 @@ fn read_open(line: &[u8], c: Cuts, kind: Kind) -> ReadCall
     requires { ⌜ Cut (now line) c ⌝ }
     ensures { λ r. ⌜ Reads (now (line .entry)) (tellOpen kind (fieldsOf (now (line .entry)))) r ⌝ }
 {
-    let first = c.first;
-    let second = c.second;
-    let third = c.third;
-    let fourth = c.fourth;
-    let fifth = c.fifth;
-    let direction = number_of(line, first);
-    let address = number_of(line, second);
-    let said = number_of(line, third);
-    let number = number_of(line, fourth);
-    let write = octets_of(line, fifth);
+    let direction = number_of(line, c.first);
+    let address = number_of(line, c.second);
+    let said = number_of(line, c.third);
+    let number = number_of(line, c.fourth);
+    let write = octets_of(line, c.fifth);
     let is_call = (c.count == OPEN_FIELDS)
         & direction.fits
         & address.fits
@@ -257,8 +239,7 @@ fn read_open(line: &[u8], c: Cuts, kind: Kind) -> ReadCall
         to_u8(number.value),
     );
     let none = no_place();
-    let write_place = write.place;
-    kept(is_call, call, none, none, none, write_place)
+    kept(is_call, call, none, none, none, write.place)
 }
 
 fn read_kind(line: &[u8], c: Cuts, kind: Kind) -> ReadCall

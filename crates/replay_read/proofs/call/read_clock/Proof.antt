@@ -25,14 +25,14 @@ kept-requires c κs = search needs
 
 returns : tie.Need-returns
 returns c =
-    let a = c .before .before .before .before .before .before .before .before .before .before .before .before .before .before .before .before .args in
-    let number-of = c .before .before .before .before .before .before .before .before .before .before .before .number-of in
-    let octets-of = c .before .before .before .before .before .before .before .before .before .before .octets-of in
-    let octets-of2 = c .before .before .before .before .before .before .before .before .before .octets-of2 in
-    let plain-call = c .before .before .before .before .plain-call in
-    let no-place = c .before .before .no-place in
+    let a = c .before .before .before .before .before .before .before .before .before .before .before .args in
+    let number-of = c .before .before .before .before .before .before .before .before .before .number-of in
+    let octets-of = c .before .before .before .before .before .before .before .before .octets-of in
+    let octets-of2 = c .before .before .before .before .before .before .before .octets-of2 in
+    let plain-call = c .before .before .plain-call in
+    let no-place = c .before .no-place in
     let kept = c .kept in
-    clock-reads (now (a .line)) (a .c) (c .before .before .before .before .before .before .before .before .before .before .before .before .before .before .before .before .pre) (number-of .result) (octets-of .result) (octets-of2 .result) (plain-call .result) (no-place .result) (kept .result) (number-of .ensures) (octets-of .ensures) (octets-of2 .ensures) (plain-call .ensures) (no-place .ensures) (kept .ensures)
+    clock-reads (now (a .line)) (a .c) (c .before .before .before .before .before .before .before .before .before .before .before .pre) (number-of .result) (octets-of .result) (octets-of2 .result) (plain-call .result) (no-place .result) (kept .result) (number-of .ensures) (octets-of .ensures) (octets-of2 .ensures) (plain-call .ensures) (no-place .ensures) (kept .ensures)
 
 pub read-clock-spec : {M : Type 1} → statement M
 read-clock-spec =

@@ -25,14 +25,14 @@ kept-requires c κs = search needs
 
 returns : tie.Need-returns
 returns c =
-    let a = c .before .before .before .before .before .before .before .before .before .before .before .before .before .before .before .before .before .args in
-    let octets-of = c .before .before .before .before .before .before .before .before .before .before .before .before .octets-of in
-    let octets-of2 = c .before .before .before .before .before .before .before .before .before .before .before .octets-of2 in
-    let octets-of3 = c .before .before .before .before .before .before .before .before .before .before .octets-of3 in
-    let plain-call = c .before .before .before .before .before .plain-call in
+    let a = c .before .before .before .before .before .before .before .before .before .before .before .args in
+    let octets-of = c .before .before .before .before .before .before .before .before .before .octets-of in
+    let octets-of2 = c .before .before .before .before .before .before .before .before .octets-of2 in
+    let octets-of3 = c .before .before .before .before .before .before .before .octets-of3 in
+    let plain-call = c .before .before .plain-call in
     let no-place = c .before .no-place in
     let kept = c .kept in
-    down-reads (now (a .line)) (a .c) (c .before .before .before .before .before .before .before .before .before .before .before .before .before .before .before .before .before .pre) (octets-of .result) (octets-of2 .result) (octets-of3 .result) (plain-call .result) (no-place .result) (kept .result) (octets-of .ensures) (octets-of2 .ensures) (octets-of3 .ensures) (plain-call .ensures) (no-place .ensures) (kept .ensures)
+    down-reads (now (a .line)) (a .c) (c .before .before .before .before .before .before .before .before .before .before .before .pre) (octets-of .result) (octets-of2 .result) (octets-of3 .result) (plain-call .result) (no-place .result) (kept .result) (octets-of .ensures) (octets-of2 .ensures) (octets-of3 .ensures) (plain-call .ensures) (no-place .ensures) (kept .ensures)
 
 pub read-down-spec : {M : Type 1} → statement M
 read-down-spec =

@@ -32,15 +32,15 @@ kept-requires c κs = search needs
 
 returns : tie.Need-returns
 returns c =
-    let a = c .before .before .before .before .before .before .before .before .before .before .before .before .before .before .before .before .before .before .before .args in
-    let number-of = c .before .before .before .before .before .before .before .before .before .before .before .before .before .before .number-of in
-    let flag-of = c .before .before .before .before .before .before .before .before .before .before .before .before .before .flag-of in
-    let octets-of = c .before .before .before .before .before .before .before .before .before .before .before .before .octets-of in
-    let pairs-from = c .before .before .before .before .before .before .before .before .before .before .pairs-from in
-    let to-u8 = c .before .before .before .to-u8 in
+    let a = c .before .before .before .before .before .before .before .before .before .before .before .before .before .before .before .args in
+    let number-of = c .before .before .before .before .before .before .before .before .before .before .before .before .before .number-of in
+    let flag-of = c .before .before .before .before .before .before .before .before .before .before .before .before .flag-of in
+    let octets-of = c .before .before .before .before .before .before .before .before .before .before .before .octets-of in
+    let pairs-from = c .before .before .before .before .before .before .before .before .before .pairs-from in
+    let to-u8 = c .before .before .to-u8 in
     let no-place = c .before .no-place in
     let kept = c .kept in
-    list-reads (now (a .line)) (a .c) (c .before .before .before .before .before .before .before .before .before .before .before .before .before .before .before .before .before .before .before .pre .1) (number-of .result) (flag-of .result) (octets-of .result) (pairs-from .result) (to-u8 .result) _ (no-place .result) (kept .result) (number-of .ensures) (flag-of .ensures) (octets-of .ensures) (pairs-from .ensures) (to-u8 .ensures) refl (no-place .ensures) (kept .ensures)
+    list-reads (now (a .line)) (a .c) (c .before .before .before .before .before .before .before .before .before .before .before .before .before .before .before .pre .1) (number-of .result) (flag-of .result) (octets-of .result) (pairs-from .result) (to-u8 .result) _ (no-place .result) (kept .result) (number-of .ensures) (flag-of .ensures) (octets-of .ensures) (pairs-from .ensures) (to-u8 .ensures) refl (no-place .ensures) (kept .ensures)
 
 pub read-list-spec : {M : Type 1} → statement M
 read-list-spec =

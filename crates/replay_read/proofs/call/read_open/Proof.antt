@@ -40,19 +40,19 @@ kept-requires c κs = search needs
 
 returns : tie.Need-returns
 returns c =
-    let a = c .before .before .before .before .before .before .before .before .before .before .before .before .before .before .before .before .before .before .before .before .before .before .before .before .args in
-    let number-of = c .before .before .before .before .before .before .before .before .before .before .before .before .before .before .before .before .before .number-of in
-    let number-of2 = c .before .before .before .before .before .before .before .before .before .before .before .before .before .before .before .before .number-of2 in
-    let number-of3 = c .before .before .before .before .before .before .before .before .before .before .before .before .before .before .before .number-of3 in
-    let number-of4 = c .before .before .before .before .before .before .before .before .before .before .before .before .before .before .number-of4 in
-    let octets-of = c .before .before .before .before .before .before .before .before .before .before .before .before .before .octets-of in
-    let to-u8 = c .before .before .before .before .before .before .to-u8 in
-    let to-u16 = c .before .before .before .before .before .to-u16 in
-    let to-u82 = c .before .before .before .before .to-u82 in
-    let plain-call = c .before .before .before .plain-call in
-    let no-place = c .before .before .no-place in
+    let a = c .before .before .before .before .before .before .before .before .before .before .before .before .before .before .before .before .before .before .args in
+    let number-of = c .before .before .before .before .before .before .before .before .before .before .before .before .before .before .before .before .number-of in
+    let number-of2 = c .before .before .before .before .before .before .before .before .before .before .before .before .before .before .before .number-of2 in
+    let number-of3 = c .before .before .before .before .before .before .before .before .before .before .before .before .before .before .number-of3 in
+    let number-of4 = c .before .before .before .before .before .before .before .before .before .before .before .before .before .number-of4 in
+    let octets-of = c .before .before .before .before .before .before .before .before .before .before .before .before .octets-of in
+    let to-u8 = c .before .before .before .before .before .to-u8 in
+    let to-u16 = c .before .before .before .before .to-u16 in
+    let to-u82 = c .before .before .before .to-u82 in
+    let plain-call = c .before .before .plain-call in
+    let no-place = c .before .no-place in
     let kept = c .kept in
-    open-reads (now (a .line)) (a .c) (c .before .before .before .before .before .before .before .before .before .before .before .before .before .before .before .before .before .before .before .before .before .before .before .before .pre) (a .kind) (number-of .result) (number-of2 .result) (number-of3 .result) (number-of4 .result) (octets-of .result) (to-u8 .result) (to-u16 .result) (to-u82 .result) (plain-call .result) (no-place .result) (kept .result) (number-of .ensures) (number-of2 .ensures) (number-of3 .ensures) (number-of4 .ensures) (octets-of .ensures) (to-u8 .ensures) (to-u16 .ensures) (to-u82 .ensures) (plain-call .ensures) (no-place .ensures) (kept .ensures)
+    open-reads (now (a .line)) (a .c) (c .before .before .before .before .before .before .before .before .before .before .before .before .before .before .before .before .before .before .pre) (a .kind) (number-of .result) (number-of2 .result) (number-of3 .result) (number-of4 .result) (octets-of .result) (to-u8 .result) (to-u16 .result) (to-u82 .result) (plain-call .result) (no-place .result) (kept .result) (number-of .ensures) (number-of2 .ensures) (number-of3 .ensures) (number-of4 .ensures) (octets-of .ensures) (to-u8 .ensures) (to-u16 .ensures) (to-u82 .ensures) (plain-call .ensures) (no-place .ensures) (kept .ensures)
 
 pub read-open-spec : {M : Type 1} → statement M
 read-open-spec =

@@ -22,13 +22,13 @@ kept-alone-requires c κs = search needs
 
 returns : tie.Need-returns
 returns c =
-    let a = c .before .before .before .before .before .before .before .before .before .before .before .args in
+    let a = c .before .before .before .before .before .before .before .before .before .args in
     let number-of = c .before .before .before .before .before .before .before .number-of in
     let number-of2 = c .before .before .before .before .before .before .number-of2 in
     let to-u16 = c .before .before .to-u16 in
     let plain-call = c .before .plain-call in
     let kept-alone = c .kept-alone in
-    seal-down-reads (now (a .line)) (a .c) (c .before .before .before .before .before .before .before .before .before .before .before .pre) (number-of .result) (number-of2 .result) (to-u16 .result) (plain-call .result) (kept-alone .result) (number-of .ensures) (number-of2 .ensures) (to-u16 .ensures) (plain-call .ensures) (kept-alone .ensures)
+    seal-down-reads (now (a .line)) (a .c) (c .before .before .before .before .before .before .before .before .before .pre) (number-of .result) (number-of2 .result) (to-u16 .result) (plain-call .result) (kept-alone .result) (number-of .ensures) (number-of2 .ensures) (to-u16 .ensures) (plain-call .ensures) (kept-alone .ensures)
 
 pub read-seal-down-spec : {M : Type 1} → statement M
 read-seal-down-spec =

@@ -19,12 +19,12 @@ kept-alone-requires c κs = search needs
 
 returns : tie.Need-returns
 returns c =
-    let a = c .before .before .before .before .before .before .before .before .args in
+    let a = c .before .before .before .before .before .before .before .args in
     let number-of = c .before .before .before .before .before .number-of in
     let to-u16 = c .before .before .to-u16 in
     let plain-call = c .before .plain-call in
     let kept-alone = c .kept-alone in
-    seal-up-reads (now (a .line)) (a .c) (c .before .before .before .before .before .before .before .before .pre) (number-of .result) (to-u16 .result) (plain-call .result) (kept-alone .result) (number-of .ensures) (to-u16 .ensures) (plain-call .ensures) (kept-alone .ensures)
+    seal-up-reads (now (a .line)) (a .c) (c .before .before .before .before .before .before .before .pre) (number-of .result) (to-u16 .result) (plain-call .result) (kept-alone .result) (number-of .ensures) (to-u16 .ensures) (plain-call .ensures) (kept-alone .ensures)
 
 pub read-seal-up-spec : {M : Type 1} → statement M
 read-seal-up-spec =
