@@ -165,14 +165,8 @@ fn read_up(line: &[u8], c: Cuts) -> ReadCall
         & auth.fits
         & octets.fits;
     let call = plain_call(Kind::Up, address.value, 0, 0, 0, 0);
-    kept(
-        is_call,
-        call,
-        octets.place,
-        auth.place,
-        read.place,
-        write.place,
-    )
+    let place = octets.place;
+    kept(is_call, call, place, auth.place, read.place, write.place)
 }
 
 fn read_down(line: &[u8], c: Cuts) -> ReadCall

@@ -28,15 +28,15 @@ kept-requires c κs = search needs
 
 returns : tie.Need-returns
 returns c =
-    let a = c .before .before .before .before .before .before .before .before .before .before .before .before .before .before .args in
-    let number-of = c .before .before .before .before .before .before .before .before .before .before .before .before .number-of in
-    let octets-of = c .before .before .before .before .before .before .before .before .before .before .before .octets-of in
-    let octets-of2 = c .before .before .before .before .before .before .before .before .before .before .octets-of2 in
-    let octets-of3 = c .before .before .before .before .before .before .before .before .before .octets-of3 in
-    let octets-of4 = c .before .before .before .before .before .before .before .before .octets-of4 in
-    let plain-call = c .before .plain-call in
+    let a = c .before .before .before .before .before .before .before .before .before .before .before .before .before .before .before .args in
+    let number-of = c .before .before .before .before .before .before .before .before .before .before .before .before .before .number-of in
+    let octets-of = c .before .before .before .before .before .before .before .before .before .before .before .before .octets-of in
+    let octets-of2 = c .before .before .before .before .before .before .before .before .before .before .before .octets-of2 in
+    let octets-of3 = c .before .before .before .before .before .before .before .before .before .before .octets-of3 in
+    let octets-of4 = c .before .before .before .before .before .before .before .before .before .octets-of4 in
+    let plain-call = c .before .before .plain-call in
     let kept = c .kept in
-    up-reads (now (a .line)) (a .c) (c .before .before .before .before .before .before .before .before .before .before .before .before .before .before .pre) (number-of .result) (octets-of .result) (octets-of2 .result) (octets-of3 .result) (octets-of4 .result) (plain-call .result) (kept .result) (number-of .ensures) (octets-of .ensures) (octets-of2 .ensures) (octets-of3 .ensures) (octets-of4 .ensures) (plain-call .ensures) (kept .ensures)
+    up-reads (now (a .line)) (a .c) (c .before .before .before .before .before .before .before .before .before .before .before .before .before .before .before .pre) (number-of .result) (octets-of .result) (octets-of2 .result) (octets-of3 .result) (octets-of4 .result) (plain-call .result) (kept .result) (number-of .ensures) (octets-of .ensures) (octets-of2 .ensures) (octets-of3 .ensures) (octets-of4 .ensures) (plain-call .ensures) (kept .ensures)
 
 pub read-up-spec : {M : Type 1} → statement M
 read-up-spec =
