@@ -25,23 +25,18 @@ fn of_head(c: Called, records: [Assoc; RECORDS_MAX], modem: Modem) -> Applied
     ensures { λ r. ⌜ r ≡ quietOf (answerNumber (c .answer)) (c .count) (c .state) records modem ⌝ }
 {
     let a = c.answer;
-    let h = c.state;
     let number = answer_number(a);
-    quiet(number, c.count, h, records, modem)
+    quiet(number, c.count, c.state, records, modem)
 }
 
 // A listing.
 pub fn apply_list(e: Ends, c: Call, octets: &[u8]) -> Applied
     ensures { λ r. ⌜ r ≡ appliedOf (worldOf e) (list (c .address) (c .word) (c .listing) (now (octets .entry))) ⌝ }
 {
-    let head = e.head;
     let records = e.records;
-    let modem = e.modem;
-    let l = c.listing;
-    let r = list_held(head, records, c.address, c.word, l, octets);
-    let called = r.called;
+    let r = list_held(e.head, records, c.address, c.word, c.listing, octets);
     let listed = r.records;
-    of_head(called, listed, modem)
+    of_head(r.called, listed, e.modem)
 }
 
 // A message to the head-end.
@@ -57,11 +52,9 @@ pub fn apply_up(
     ensures { λ r. ⌜ AppliesSent (worldOf e) (up (c .address) (now (read .entry)) (now (write .entry)) (now (octets .entry)) (now (auth .entry)) (length (now (out .entry))))
         (now (out .entry)) r (now (out .exit)) ⌝ }
 {
-    let head = e.head;
     let records = e.records;
-    let modem = e.modem;
-    let r = receive_held(head, records, c.address, read, write, octets, auth, out);
-    of_head(r, records, modem)
+    let r = receive_held(e.head, records, c.address, read, write, octets, auth, out);
+    of_head(r, records, e.modem)
 }
 
 // A frame that the head-end sends.
@@ -69,9 +62,8 @@ pub fn apply_seal_down(e: Ends, c: Call, tek: &mut [u8], vector: &mut [u8]) -> A
     ensures { λ r. ⌜ AppliesKey (worldOf e) (sealDown (c .address) (c .said) (length (now (tek .entry))) (length (now (vector .entry))))
         (now (tek .entry)) (now (vector .entry)) r (now (tek .exit)) (now (vector .exit)) ⌝ }
 {
-    let head = e.head;
     let records = e.records;
-    let r = seal_held(head, records, c.address, c.said, tek, vector);
+    let r = seal_held(e.head, records, c.address, c.said, tek, vector);
     let a = r.answer;
     let key = r.number;
     let number = answer_number(a);
@@ -96,17 +88,15 @@ pub fn apply_open_up(
     ensures { λ r. ⌜ Applies (worldOf e) (openUp (c .word) (c .address) (c .said) (c .number) (now (write .entry)) (length (now (tek .entry))) (length (now (vector .entry))) (length (now (out .entry))))
         (now (tek .entry)) (now (vector .entry)) (now (out .entry)) r (now (tek .exit)) (now (vector .exit)) (now (out .exit)) ⌝ }
 {
-    let head = e.head;
     let records = e.records;
     let modem = e.modem;
-    let n = c.number;
     let r = open_held(
-        head,
+        e.head,
         records,
         c.word,
         c.address,
         c.said,
-        n,
+        c.number,
         write,
         tek,
         vector,

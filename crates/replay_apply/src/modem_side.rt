@@ -31,9 +31,8 @@ fn of_modem(c: Called, head: HeadEnd, records: [Assoc; RECORDS_MAX]) -> Applied
     ensures { λ r. ⌜ r ≡ quietOf (answerNumber (c .answer)) (c .count) head records (c .modem) ⌝ }
 {
     let a = c.answer;
-    let m = c.modem;
     let number = answer_number(a);
-    quiet(number, c.count, head, records, m)
+    quiet(number, c.count, head, records, c.modem)
 }
 
 // The modem's part of the clock, with the head-end and the records after theirs.
@@ -48,8 +47,7 @@ pub fn clock_modem(
     ensures { λ r. ⌜ (r ≡ clockedOf (isDone (clockOf (e .modem) t (now (write .entry)) (length (now (out .entry))) .called .answer)) (clockOf (e .modem) t (now (write .entry)) (length (now (out .entry))) .called) e head records)
         × (now (out .exit) ≡ overlay (now (out .entry)) (clockOf (e .modem) t (now (write .entry)) (length (now (out .entry))) .written)) ⌝ }
 {
-    let m = e.modem;
-    let c = clock(m, t, write, out);
+    let c = clock(e.modem, t, write, out);
     let a = c.answer;
     if !is_done(a) {
         let number = answer_number(a);
@@ -63,11 +61,9 @@ pub fn apply_established(e: Ends, out: &mut [u8]) -> Applied
     ensures { λ r. ⌜ AppliesSent (worldOf e) (World.established (length (now (out .entry))))
         (now (out .entry)) r (now (out .exit)) ⌝ }
 {
-    let head = e.head;
     let records = e.records;
-    let m = e.modem;
-    let c = established(m, out);
-    of_modem(c, head, records)
+    let c = established(e.modem, out);
+    of_modem(c, e.head, records)
 }
 
 // Event reauth of it.
@@ -75,11 +71,9 @@ pub fn apply_reauth(e: Ends, out: &mut [u8]) -> Applied
     ensures { λ r. ⌜ AppliesSent (worldOf e) (World.reauth (length (now (out .entry))))
         (now (out .entry)) r (now (out .exit)) ⌝ }
 {
-    let head = e.head;
     let records = e.records;
-    let m = e.modem;
-    let c = reauth(m, out);
-    of_modem(c, head, records)
+    let c = reauth(e.modem, out);
+    of_modem(c, e.head, records)
 }
 
 // A message to the modem.
@@ -87,11 +81,9 @@ pub fn apply_down(e: Ends, octets: &[u8], read: &[u8], write: &[u8], out: &mut [
     ensures { λ r. ⌜ AppliesSent (worldOf e) (World.down (now (read .entry)) (now (write .entry)) (now (octets .entry)) (length (now (out .entry))))
         (now (out .entry)) r (now (out .exit)) ⌝ }
 {
-    let head = e.head;
     let records = e.records;
-    let m = e.modem;
-    let r = receive(m, octets, read, write, out);
-    of_modem(r, head, records)
+    let r = receive(e.modem, octets, read, write, out);
+    of_modem(r, e.head, records)
 }
 
 // A frame that the modem sends.
@@ -99,8 +91,7 @@ pub fn apply_seal_up(e: Ends, c: Call, tek: &mut [u8], vector: &mut [u8]) -> App
     ensures { λ r. ⌜ AppliesKey (worldOf e) (World.sealUp (c .said) (length (now (tek .entry))) (length (now (vector .entry))))
         (now (tek .entry)) (now (vector .entry)) r (now (tek .exit)) (now (vector .exit)) ⌝ }
 {
-    let m = e.modem;
-    let r = seal(m, c.said, tek, vector);
+    let r = seal(e.modem, c.said, tek, vector);
     let a = r.answer;
     let key = r.number;
     let number = answer_number(a);
@@ -127,9 +118,17 @@ pub fn apply_open_down(
 {
     let head = e.head;
     let records = e.records;
-    let m = e.modem;
-    let n = c.number;
-    let r = open(m, c.word, c.address, c.said, n, write, tek, vector, out);
+    let r = open(
+        e.modem,
+        c.word,
+        c.address,
+        c.said,
+        c.number,
+        write,
+        tek,
+        vector,
+        out,
+    );
     let a = r.answer;
     let after = r.modem;
     let number = answer_number(a);

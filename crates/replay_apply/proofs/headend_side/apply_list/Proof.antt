@@ -13,7 +13,7 @@ of-head-requires : tie.Need-of-head-requires
 of-head-requires c κs = search needs
 
 returns : tie.Need-returns
-returns c = list-applied (c .before .before .before .before .before .before .before .before .before .args .e) (c .before .before .before .before .before .before .before .before .before .args .c .address) (c .before .before .before .before .before .before .before .before .before .args .c .word) (c .before .before .before .before .before .before .before .before .before .args .c .listing) (c .before .before .before .before .before .before .before .before .before .args .octets .now) (c .before .before .before .list-held .result .called) (c .before .before .before .list-held .result .records) _ (c .of-head .ensures) (ap (λ (y : Changed). y .called) (c .before .before .before .list-held .ensures)) (ap (λ (y : Changed). y .records) (c .before .before .before .list-held .ensures))
+returns c = list-applied (c .before .before .before .before .before .args .e) (c .before .before .before .before .before .args .c .address) (c .before .before .before .before .before .args .c .word) (c .before .before .before .before .before .args .c .listing) (c .before .before .before .before .before .args .octets .now) (c .before .before .list-held .result .called) (c .before .before .list-held .result .records) _ (c .of-head .ensures) (ap (λ (y : Changed). y .called) (c .before .before .list-held .ensures)) (ap (λ (y : Changed). y .records) (c .before .before .list-held .ensures))
 
 pub apply-list-spec : {M : Type 1} → statement M
 apply-list-spec = tie.close (tie.spec list-held-requires of-head-requires returns)

@@ -16,7 +16,7 @@ same-length c = search needs
 
 returns : tie.Need-returns
 returns c =
-    let x = c .before .before .before .before .before .before .before .before .before .before .before .before .before .args in
+    let x = c .before .before .before .before .before .before .before .before .before .before .before .args in
     (up-applied (x .e) (x .c .address) (x .read .now) (x .write .now) (x .octets .now) (x .auth .now) (length (x .out .now)) (c .before .before .before .receive-held .result) _ (c .of-head .ensures) (c .before .before .before .receive-held .ensures .0), c .before .before .before .receive-held .ensures .1)
 
 pub apply-up-spec : {M : Type 1} → statement M

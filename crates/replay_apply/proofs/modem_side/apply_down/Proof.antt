@@ -14,7 +14,7 @@ same-length : tie.Need-same-length
 same-length c = search needs
 
 returns : tie.Need-returns
-returns c = (down-applied (c .before .before .before .before .before .before .before .before .before .before .before .before .args .e) _ _ _ _ (c .before .before .before .receive .result) _ (c .of-modem .ensures) (c .before .before .before .receive .ensures .0), c .before .before .before .receive .ensures .1)
+returns c = (down-applied (c .before .before .before .before .before .before .before .before .before .before .args .e) _ _ _ _ (c .before .before .before .receive .result) _ (c .of-modem .ensures) (c .before .before .before .receive .ensures .0), c .before .before .before .receive .ensures .1)
 
 pub apply-down-spec : {M : Type 1} → statement M
 apply-down-spec = tie.close (tie.spec receive-requires of-modem-requires same-length returns)

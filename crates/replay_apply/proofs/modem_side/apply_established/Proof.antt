@@ -14,7 +14,7 @@ same-length : tie.Need-same-length
 same-length c = search needs
 
 returns : tie.Need-returns
-returns c = (established-applied (c .before .before .before .before .before .before .before .before .before .args .e) _ (c .before .before .before .established .result) _ (c .of-modem .ensures) (c .before .before .before .established .ensures .0), c .before .before .before .established .ensures .1)
+returns c = (established-applied (c .before .before .before .before .before .before .before .args .e) _ (c .before .before .before .established .result) _ (c .of-modem .ensures) (c .before .before .before .established .ensures .0), c .before .before .before .established .ensures .1)
 
 pub apply-established-spec : {M : Type 1} → statement M
 apply-established-spec =

@@ -14,7 +14,7 @@ same-length : tie.Need-same-length
 same-length c = search needs
 
 returns : tie.Need-returns
-returns c = (reauth-applied (c .before .before .before .before .before .before .before .before .before .args .e) _ (c .before .before .before .reauth .result) _ (c .of-modem .ensures) (c .before .before .before .reauth .ensures .0), c .before .before .before .reauth .ensures .1)
+returns c = (reauth-applied (c .before .before .before .before .before .before .before .args .e) _ (c .before .before .before .reauth .result) _ (c .of-modem .ensures) (c .before .before .before .reauth .ensures .0), c .before .before .before .reauth .ensures .1)
 
 pub apply-reauth-spec : {M : Type 1} → statement M
 apply-reauth-spec = tie.close (tie.spec reauth-requires of-modem-requires same-length returns)

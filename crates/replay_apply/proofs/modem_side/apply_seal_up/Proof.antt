@@ -17,7 +17,7 @@ same-length-2 : tie.Need-same-length-2
 same-length-2 c = search needs
 
 returns : tie.Need-returns
-returns c = (seal-up-applied (c .before .before .before .before .before .before .before .before .before .before .before .before .args .e) _ _ _ _ (c .before .before .before .before .before .before .seal .result) (c .answer-number .ensures) (c .before .before .before .before .before .before .seal .ensures .0), c .before .before .before .before .before .before .seal .ensures .1, c .before .before .before .before .before .before .seal .ensures .2)
+returns c = (seal-up-applied (c .before .before .before .before .before .before .before .before .before .before .before .args .e) _ _ _ _ (c .before .before .before .before .before .before .seal .result) (c .answer-number .ensures) (c .before .before .before .before .before .before .seal .ensures .0), c .before .before .before .before .before .before .seal .ensures .1, c .before .before .before .before .before .before .seal .ensures .2)
 
 pub apply-seal-up-spec : {M : Type 1} → statement M
 apply-seal-up-spec =

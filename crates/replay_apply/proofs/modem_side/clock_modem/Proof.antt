@@ -22,7 +22,7 @@ same-length : tie.Need-same-length
 same-length c = search needs
 
 returns : tie.Need-returns
-returns c = (clock-refused (c .before .before .before .before .before .before .before .before .before .before .before .args .e) _ _ (c .before .before .before .before .before .before .clock .result) _ _ _ (c .refused .ensures) (c .before .answer-number .ensures) (c .before .before .before .before .before .before .clock .ensures .0) (sym (c .before .before .before .is-done .ensures) ∙ not-true _ (c .before .before .if1 .taken)), c .before .before .before .before .before .before .clock .ensures .1)
+returns c = (clock-refused (c .before .before .before .before .before .before .before .before .before .before .args .e) _ _ (c .before .before .before .before .before .before .clock .result) _ _ _ (c .refused .ensures) (c .before .answer-number .ensures) (c .before .before .before .before .before .before .clock .ensures .0) (sym (c .before .before .before .is-done .ensures) ∙ not-true _ (c .before .before .if1 .taken)), c .before .before .before .before .before .before .clock .ensures .1)
 
 of-modem-requires : tie.Need-of-modem-requires
 of-modem-requires c κs = search needs
@@ -31,7 +31,7 @@ same-length-2 : tie.Need-same-length-2
 same-length-2 c = search needs
 
 returns-2 : tie.Need-returns-2
-returns-2 c = (clock-done (c .before .before .before .before .before .before .before .before .before .before .args .e) _ _ (c .before .before .before .before .before .clock .result) _ _ (c .of-modem .ensures) (c .before .before .before .before .before .clock .ensures .0) (sym (c .before .before .is-done .ensures) ∙ not-false _ (c .before .if1 .left)), c .before .before .before .before .before .clock .ensures .1)
+returns-2 c = (clock-done (c .before .before .before .before .before .before .before .before .before .args .e) _ _ (c .before .before .before .before .before .clock .result) _ _ (c .of-modem .ensures) (c .before .before .before .before .before .clock .ensures .0) (sym (c .before .before .is-done .ensures) ∙ not-false _ (c .before .if1 .left)), c .before .before .before .before .before .clock .ensures .1)
 
 pub clock-modem-spec : {M : Type 1} → statement M
 clock-modem-spec =
