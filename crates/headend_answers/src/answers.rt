@@ -38,9 +38,6 @@ pub struct Reaction {
 pub fn key_answer(clock: u64, k: Known, a: Assoc, digest: bool, f: Fields) -> Fields
     ensures { λ r. ⌜ r ≡ keyAnswer clock k a digest f ⌝ }
 {
-    let e = k.entry;
-    let keys = e.keys;
-    let l = e.listing;
     if !k.is_listed {
         return error_answer(
             CODE_AUTHORIZATION_INVALID,
@@ -50,7 +47,7 @@ pub fn key_answer(clock: u64, k: Known, a: Assoc, digest: bool, f: Fields) -> Fi
             ERROR_UNAUTHORIZED_MODEM,
         );
     }
-    if !is_active(clock, keys, f.ak) {
+    if !is_active(clock, k.entry.keys, f.ak) {
         return error_answer(
             CODE_AUTHORIZATION_INVALID,
             f.identifier,
@@ -68,7 +65,7 @@ pub fn key_answer(clock: u64, k: Known, a: Assoc, digest: bool, f: Fields) -> Fi
             ERROR_DIGEST,
         );
     }
-    if !is_listing(l, f.said) {
+    if !is_listing(k.entry.listing, f.said) {
         return error_answer(
             CODE_KEY_REJECT,
             f.identifier,
@@ -124,13 +121,9 @@ fn request_reaction(h: HeadEnd, k: Known, identifier: u8) -> Reaction
             answer: answer,
         };
     }
-    let settings = h.settings;
-    let ak = settings.ak;
-    let held = e.keys;
-    let l = e.listing;
-    let keys = granted(ak.life, h.clock, held);
+    let keys = granted(h.settings.ak.life, h.clock, e.keys);
     let next = with_entry(h, k.at, with_keys(e, keys));
-    let answer = reply_answer(h.clock, identifier, l, keys);
+    let answer = reply_answer(h.clock, identifier, e.listing, keys);
     Reaction {
         state: next,
         answer: answer,

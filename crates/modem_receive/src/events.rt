@@ -34,9 +34,8 @@ pub fn rejected(m: Modem, error: u8) -> Progress
     requires { ⌜ Ready m ⌝ }
     ensures { λ r. ⌜ r ≡ rejected m error ⌝ }
 {
-    let a = m.authorization;
     let w = start(m).plain_event(reject_event(error));
-    if a.state == AUTH_REAUTH_WAIT {
+    if m.authorization.state == AUTH_REAUTH_WAIT {
         return w.deliver_all(TEK_EVENT_STOP);
     }
     w
@@ -47,8 +46,7 @@ pub fn invalidated(m: Modem, identifier: u8) -> Progress
     requires { ⌜ Ready m ⌝ }
     ensures { λ r. ⌜ r ≡ invalidated m identifier ⌝ }
 {
-    let a = m.authorization;
-    if authorization_next(AUTH_EVENT_INVALID, a.state) == BLANK {
+    if authorization_next(AUTH_EVENT_INVALID, m.authorization.state) == BLANK {
         return start(m);
     }
     let slot = slot_asking(m, identifier);

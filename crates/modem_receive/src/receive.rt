@@ -61,10 +61,8 @@ pub fn widths_fit(m: Modem, f: Fields) -> bool
         return true;
     }
     let t = m.teks[i];
-    let older = f.older;
-    let newer = f.newer;
     let w = width(t.suite);
-    are_wide(w, older) & are_wide(w, newer)
+    are_wide(w, f.older) & are_wide(w, f.newer)
 }
 
 // Question 10: a message that names a SAID names one that has a slot.
@@ -77,8 +75,8 @@ pub fn said_known(m: Modem, f: Fields) -> bool
 fn is_auth_waiting(m: Modem, identifier: u8) -> bool
     ensures { λ r. ⌜ r ≡ authWaits m identifier ⌝ }
 {
-    let a = m.authorization;
-    ((a.state == AUTH_WAIT) | (a.state == AUTH_REAUTH_WAIT)) & (a.identifier == identifier)
+    ((m.authorization.state == AUTH_WAIT) | (m.authorization.state == AUTH_REAUTH_WAIT))
+        & (m.authorization.identifier == identifier)
 }
 
 // Whether the TEK machine of a SAID that has a slot waits for an answer with this Identifier.
@@ -123,11 +121,7 @@ pub fn received(m: Modem, f: Fields) -> Progress
     match code {
         CODE_AUTHORIZATION_REPLY => replied(m, f),
         CODE_AUTHORIZATION_REJECT => rejected(m, f.error),
-        CODE_KEY_REPLY => {
-            let older = f.older;
-            let newer = f.newer;
-            start(m).deliver_reply(i, TEK_EVENT_KEY_REPLY, older, newer)
-        }
+        CODE_KEY_REPLY => start(m).deliver_reply(i, TEK_EVENT_KEY_REPLY, f.older, f.newer),
         CODE_KEY_REJECT => start(m).deliver(i, TEK_EVENT_KEY_REJECT),
         CODE_AUTHORIZATION_INVALID => invalidated(m, f.identifier),
         _ => start(m).deliver(i, TEK_EVENT_INVALID),

@@ -12,7 +12,7 @@ error-answer-requires c κs = search needs
 
 returns : tie.Need-returns
 returns c =
-    let x = c .before .before .before .before .before .before .args in
+    let x = c .before .before .before .args in
     c .error-answer .ensures ∙ sym (key-unlisted (x .clock) (x .k) (x .a) (x .digest) (x .f) (not-true _ (c .before .if1 .taken)))
 
 is-active-requires : tie.Need-is-active-requires
@@ -23,7 +23,7 @@ error-answer-requires-2 c κs = search needs
 
 returns-2 : tie.Need-returns-2
 returns-2 c =
-    let x = c .before .before .before .before .before .before .before .before .args in
+    let x = c .before .before .before .before .before .args in
     let sent : c .error-answer2 .result ≡ invalid (x .f .identifier) 4 = c .error-answer2 .ensures in
     sent ∙ sym (key-inactive (x .clock) (x .k) (x .a) (x .digest) (x .f) (not-false _ (c .before .before .before .if1 .left)) (sym (c .before .before .is-active .ensures) ∙ not-true _ (c .before .if2 .taken)))
 
@@ -32,7 +32,7 @@ error-answer-requires-3 c κs = search needs
 
 returns-3 : tie.Need-returns-3
 returns-3 c =
-    let x = c .before .before .before .before .before .before .before .before .before .args in
+    let x = c .before .before .before .before .before .before .args in
     c .error-answer3 .ensures ∙ sym (key-digest (x .clock) (x .k) (x .a) (x .digest) (x .f) (not-false _ (c .before .before .before .before .if1 .left)) (sym (c .before .before .before .is-active .ensures) ∙ not-false _ (c .before .before .if2 .left)) (not-true _ (c .before .if3 .taken)))
 
 is-listing-requires : tie.Need-is-listing-requires
@@ -43,7 +43,7 @@ error-answer-requires-4 c κs = search needs
 
 returns-4 : tie.Need-returns-4
 returns-4 c =
-    let x = c .before .before .before .before .before .before .before .before .before .before .before .args in
+    let x = c .before .before .before .before .before .before .before .before .args in
     c .error-answer4 .ensures ∙ sym (key-foreign (x .clock) (x .k) (x .a) (x .digest) (x .f) (not-false _ (c .before .before .before .before .before .before .if1 .left)) (sym (c .before .before .before .before .before .is-active .ensures) ∙ not-false _ (c .before .before .before .before .if2 .left)) (not-false _ (c .before .before .before .if3 .left)) (sym (c .before .before .is-listing .ensures) ∙ not-true _ (c .before .if4 .taken)))
 
 key-reply-requires : tie.Need-key-reply-requires
@@ -51,7 +51,7 @@ key-reply-requires c κs = search needs
 
 returns-5 : tie.Need-returns-5
 returns-5 c =
-    let x = c .before .before .before .before .before .before .before .before .before .before .before .args in
+    let x = c .before .before .before .before .before .before .before .before .args in
     c .key-reply .ensures ∙ sym (key-granted (x .clock) (x .k) (x .a) (x .digest) (x .f) (not-false _ (c .before .before .before .before .before .before .if1 .left)) (sym (c .before .before .before .before .before .is-active .ensures) ∙ not-false _ (c .before .before .before .before .if2 .left)) (not-false _ (c .before .before .before .if3 .left)) (sym (c .before .before .is-listing .ensures) ∙ not-false _ (c .before .if4 .left)))
 
 pub key-answer-spec : {M : Type 1} → statement M

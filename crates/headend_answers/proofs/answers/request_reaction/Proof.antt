@@ -25,7 +25,7 @@ returns-2 c =
     ap (λ (f : Fields). record { state = x .h; answer = f }) (c .error-answer2 .ensures) ∙ sym (request-barred (x .h) (x .k) (x .identifier) (not-false _ (c .before .before .before .if1 .left)) (eq-eqb _ _ (c .before .if2 .taken)))
 
 granted-requires : tie.Need-granted-requires
-granted-requires c κs = c .before .before .before .before .before .before .before .before .before .pre (not-false _ (c .before .before .before .before .before .before .if1 .left))
+granted-requires c κs = c .before .before .before .before .before .pre (not-false _ (c .before .before .if1 .left))
 
 with-keys-requires : tie.Need-with-keys-requires
 with-keys-requires c κs = search needs
@@ -38,8 +38,8 @@ reply-answer-requires c κs = search needs
 
 returns-3 : tie.Need-returns-3
 returns-3 c =
-    let x = c .before .before .before .before .before .before .before .before .before .before .before .before .before .args in
-    let made = request-allowed (x .h) (x .k) (x .identifier) (not-false _ (c .before .before .before .before .before .before .before .before .before .before .if1 .left)) (ne-eqb _ _ (c .before .before .before .before .before .before .before .before .if2 .left)) in
+    let x = c .before .before .before .before .before .before .before .before .before .args in
+    let made = request-allowed (x .h) (x .k) (x .identifier) (not-false _ (c .before .before .before .before .before .before .if1 .left)) (ne-eqb _ _ (c .before .before .before .before .if2 .left)) in
     simp (
       c .reply-answer .ensures,
       c .before .with-entry .ensures,

@@ -14,7 +14,7 @@ reject-event-requires : tie.Need-reject-event-requires
 reject-event-requires c κs = search needs
 
 plain-event-requires : tie.Need-plain-event-requires
-plain-event-requires c κs = started-ready (c .before .before .before .args .m) (c .before .start .result) (c .before .start .ensures) (c .before .before .before .pre)
+plain-event-requires c κs = started-ready (c .before .before .args .m) (c .before .start .result) (c .before .start .ensures) (c .before .before .pre)
 
 deliver-all-requires : tie.Need-deliver-all-requires
 deliver-all-requires c κs = search needs

@@ -23,10 +23,10 @@ start-requires : tie.Need-start-requires
 start-requires c κs = search needs
 
 deliver-reply-requires : tie.Need-deliver-reply-requires
-deliver-reply-requires c κs = let a = c .before .before .before .before .before .args in
-    let is : a .f .code ≡ 8 = c .before .before .before .match .keys3 in
-    let known : slotOfSaid (a .m) (a .f .said) < 4 = c .before .before .before .before .before .pre .1 .known (λ e. omega (arith, e, is)) (λ e. omega (arith, e, is)) (λ e. omega (arith, e, is)) in
-    (omega (arith, known, c .before .before .before .before .slot-of-said .ensures .0), (started-ready (a .m) (c .start .result) (c .start .ensures) (c .before .before .before .before .before .pre .0), (c .before .before .before .before .before .pre .1 .older-small, c .before .before .before .before .before .pre .1 .newer-small)))
+deliver-reply-requires c κs = let a = c .before .before .before .args in
+    let is : a .f .code ≡ 8 = c .before .match .keys3 in
+    let known : slotOfSaid (a .m) (a .f .said) < 4 = c .before .before .before .pre .1 .known (λ e. omega (arith, e, is)) (λ e. omega (arith, e, is)) (λ e. omega (arith, e, is)) in
+    (omega (arith, known, c .before .before .slot-of-said .ensures .0), (started-ready (a .m) (c .start .result) (c .start .ensures) (c .before .before .before .pre .0), (c .before .before .before .pre .1 .older-small, c .before .before .before .pre .1 .newer-small)))
 
 start-requires-2 : tie.Need-start-requires-2
 start-requires-2 c κs = search needs
@@ -58,9 +58,9 @@ returns-2 c = let a = c .before .before .before .args in
     c .rejected .ensures ∙ received-6 (a .m) (a .f) (λ e. omega (arith, e, is)) is
 
 returns-3 : tie.Need-returns-3
-returns-3 c = let a = c .before .before .before .before .before .before .args in
-    let is : a .f .code ≡ 8 = c .before .before .before .before .match .keys3 in
-    replied-there (a .m) (a .f) (c .before .start .result) (c .before .before .before .before .before .slot-of-said .result) (c .deliver-reply .result) (c .before .start .ensures) (c .before .before .before .before .before .slot-of-said .ensures .0) (c .deliver-reply .ensures .0)
+returns-3 c = let a = c .before .before .before .before .args in
+    let is : a .f .code ≡ 8 = c .before .before .match .keys3 in
+    replied-there (a .m) (a .f) (c .before .start .result) (c .before .before .before .slot-of-said .result) (c .deliver-reply .result) (c .before .start .ensures) (c .before .before .before .slot-of-said .ensures .0) (c .deliver-reply .ensures .0)
     ∙ received-8 (a .m) (a .f) (λ e. omega (arith, e, is)) (λ e. omega (arith, e, is)) is
 
 returns-4 : tie.Need-returns-4

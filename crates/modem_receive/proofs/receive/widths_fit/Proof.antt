@@ -34,10 +34,10 @@ are-wide-requires-2 : tie.Need-are-wide-requires-2
 are-wide-requires-2 c κs = search needs
 
 returns-3 : tie.Need-returns-3
-returns-3 c = let a = c .before .before .before .before .before .before .before .before .before .before .args in
-    let small : slotOfSaid (a .t1) (a .f .said) < 4 = omega (arith, c .before .before .before .before .before .before .before .before .before .slot-of-said .ensures .0, c .before .before .before .before .before .before .if2 .left) in
-    wide-there (a .t1) (a .f) (c .before .before .before .before .before .before .before .before .before .slot-of-said .result) (c .before .before .before .before .before .before .before .before .before .slot-of-said .ensures .0) (c .before .before .width .result) (c .before .are-wide .result) (c .are-wide2 .result) (c .before .before .width .ensures .0) (c .before .are-wide .ensures) (c .are-wide2 .ensures)
-    ∙ widths-known (a .t1) (a .f) (c .before .before .before .before .before .before .before .if1 .left) small
+returns-3 c = let a = c .before .before .before .before .before .before .before .before .args in
+    let small : slotOfSaid (a .t1) (a .f .said) < 4 = omega (arith, c .before .before .before .before .before .before .before .slot-of-said .ensures .0, c .before .before .before .before .if2 .left) in
+    wide-there (a .t1) (a .f) (c .before .before .before .before .before .before .before .slot-of-said .result) (c .before .before .before .before .before .before .before .slot-of-said .ensures .0) (c .before .before .width .result) (c .before .are-wide .result) (c .are-wide2 .result) (c .before .before .width .ensures .0) (c .before .are-wide .ensures) (c .are-wide2 .ensures)
+    ∙ widths-known (a .t1) (a .f) (c .before .before .before .before .before .if1 .left) small
 
 pub widths-fit-spec : {M : Type 1} → statement M
 widths-fit-spec =
