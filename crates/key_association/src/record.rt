@@ -42,13 +42,11 @@ pub fn deadlines_fit(older: u64, newer: u64, half: u64, clock: u64) -> bool
 pub fn record_fits(a: Assoc, half: u64, clock: u64) -> bool
     ensures { λ r. ⌜ r ≡ recordFits half clock a ⌝ }
 {
-    let older = a.older;
-    let newer = a.newer;
     let w = width(a.suite);
     said_fits(a.said)
         & suite_known(a.suite)
-        & key_fits(older, w)
-        & key_fits(newer, w)
-        & is_next(older, newer)
-        & deadlines_fit(older.deadline, newer.deadline, half, clock)
+        & key_fits(a.older, w)
+        & key_fits(a.newer, w)
+        & is_next(a.older, a.newer)
+        & deadlines_fit(a.older.deadline, a.newer.deadline, half, clock)
 }

@@ -73,22 +73,18 @@ pub fn key_octets_zero(k: KeyOctets) -> bool
 pub fn params_fit(p: Params) -> bool
     ensures { λ r. ⌜ r ≡ paramsFit p ⌝ }
 {
-    let tek = p.tek;
-    let vector = p.vector;
     tek_in_range(p.number)
         & (LIFE_MIN <= p.life)
         & (p.life <= TEK_LIFE_MAX)
-        & key_octets_fit(tek)
-        & key_octets_fit(vector)
+        & key_octets_fit(p.tek)
+        & key_octets_fit(p.vector)
 }
 
 // No TEK-Parameters: all zero.
 pub fn params_zero(p: Params) -> bool
     ensures { λ r. ⌜ r ≡ paramsZero p ⌝ }
 {
-    let tek = p.tek;
-    let vector = p.vector;
-    (p.number.0 == 0) & (p.life == 0) & key_octets_zero(tek) & key_octets_zero(vector)
+    (p.number.0 == 0) & (p.life == 0) & key_octets_zero(p.tek) & key_octets_zero(p.vector)
 }
 
 // Two TEK-Parameters: the newer has the number after the older's, and the longer life.
@@ -218,15 +214,13 @@ pub fn fields_fit(f: Fields) -> bool
     ensures { λ r. ⌜ r ≡ fieldsFit f ⌝ }
 {
     let ds = f.descriptors;
-    let older = f.older;
-    let newer = f.newer;
     head_fits(f.code, f.identifier)
         & ak_fits(f.code, f.ak)
         & said_fits(f.code, f.said)
         & life_fits(f.code, f.life)
         & error_fits(f.code, f.error)
         & list_fits(f.code, f.count, ds)
-        & keys_fit(f.code, older, newer)
+        & keys_fit(f.code, f.older, f.newer)
 }
 
 // Question 2 of the AUTH-Key: 1 to 256 octets, where the code carries one.
