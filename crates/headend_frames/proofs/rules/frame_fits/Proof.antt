@@ -1,4 +1,5 @@
 -- `headend_frames::rules::frame_fits` meets its contract.
+use mathlib.Core.Path.{refl}
 use borrow.Author.Needs.{needs}
 use Rattle.headend_frames.specs.FrameQuestions.{frameFits}
 use Rattle.headend_frames.proofs.rules.frame_fits.Statement.{statement}
@@ -24,7 +25,7 @@ held-suits-requires c κs = search needs
 
 returns : tie.Need-returns
 unfolding frameFits
-returns c = cc
+returns c = rw (c .held-suits .ensures, c .before .said-fits .ensures, c .before .before .address-fits .ensures, c .before .before .before .records-fit .ensures, c .before .before .before .before .head-fits .ensures, c .before .before .before .before .before .entry-of .ensures) refl
 
 pub frame-fits-spec : {M : Type 1} → statement M
 frame-fits-spec =

@@ -1,4 +1,5 @@
 -- `headend_frames::rules::held_suits` meets its contract.
+use mathlib.Core.Path.{refl}
 use borrow.Author.Needs.{needs}
 use Rattle.headend_frames.specs.FrameQuestions.{heldSuits}
 use Rattle.headend_frames.proofs.rules.held_suits.Statement.{statement}
@@ -12,7 +13,7 @@ found-suits-requires c κs = search needs
 
 returns : tie.Need-returns
 unfolding heldSuits
-returns c = cc
+returns c = rw (c .found-suits .ensures, c .before .is-own .ensures) refl
 
 pub held-suits-spec : {M : Type 1} → statement M
 held-suits-spec =

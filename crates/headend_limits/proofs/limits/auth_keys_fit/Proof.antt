@@ -1,4 +1,5 @@
 -- `headend_limits::limits::auth_keys_fit` meets its contract.
+use mathlib.Core.Path.{refl}
 use Rattle.headend_limits.specs.Limits.{authKeysFit}
 use borrow.Author.Needs.{needs}
 use Rattle.headend_limits.proofs.limits.auth_keys_fit.Statement.{statement}
@@ -18,7 +19,8 @@ is-within-requires-2 c κs = search needs
 
 returns : tie.Need-returns
 unfolding authKeysFit
-returns c = cc
+returns c =
+    rw (c .before .before .before .is-within2 .ensures, c .before .before .before .before .maximum .ensures, c .before .before .before .before .before .is-within .ensures, c .before .before .before .before .before .before .ak-in-range .ensures) refl
 
 pub auth-keys-fit-spec : {M : Type 1} → statement M
 auth-keys-fit-spec =

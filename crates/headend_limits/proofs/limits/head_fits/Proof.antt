@@ -1,4 +1,5 @@
 -- `headend_limits::limits::head_fits` meets its contract.
+use mathlib.Core.Path.{refl}
 use Rattle.headend_limits.specs.Limits.{headFits}
 use borrow.Author.Needs.{needs}
 use Rattle.headend_limits.proofs.limits.head_fits.Statement.{statement}
@@ -12,7 +13,7 @@ entries-fit-requires c κs = search needs
 
 returns : tie.Need-returns
 unfolding headFits
-returns c = cc
+returns c = rw (c .entries-fit .ensures, c .before .before .before .before .settings-fit .ensures) refl
 
 pub head-fits-spec : {M : Type 1} → statement M
 head-fits-spec = tie.close (tie.spec settings-fit-requires entries-fit-requires returns)

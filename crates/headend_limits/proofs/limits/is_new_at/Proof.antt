@@ -1,4 +1,5 @@
 -- `headend_limits::limits::is_new_at` meets its contract.
+use mathlib.Core.Path.{refl}
 use Rattle.headend_limits.specs.Limits.{newAt}
 use borrow.Author.Needs.{needs}
 use Rattle.headend_limits.proofs.limits.is_new_at.Statement.{statement}
@@ -27,7 +28,7 @@ is-named-requires c κs = search needs
 
 returns : tie.Need-returns
 unfolding newAt
-returns c = cc
+returns c = rw (c .is-named .ensures) refl
 
 pub is-new-at-spec : {M : Type 1} → statement M
 is-new-at-spec =

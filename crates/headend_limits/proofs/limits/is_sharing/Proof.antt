@@ -1,4 +1,5 @@
 -- `headend_limits::limits::is_sharing` meets its contract.
+use mathlib.Core.Path.{refl}
 use Rattle.headend_limits.specs.Limits.{shares}
 use borrow.Author.Needs.{needs}
 use Rattle.headend_limits.proofs.limits.is_sharing.Statement.{statement}
@@ -18,7 +19,7 @@ is-sharing-at-requires-4 c κs = search needs
 
 returns : tie.Need-returns
 unfolding shares
-returns c = cc
+returns c = rw (c .is-sharing-at4 .ensures, c .before .is-sharing-at3 .ensures, c .before .before .is-sharing-at2 .ensures, c .before .before .before .is-sharing-at .ensures) refl
 
 pub is-sharing-spec : {M : Type 1} → statement M
 is-sharing-spec =

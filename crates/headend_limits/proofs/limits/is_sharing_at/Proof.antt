@@ -1,4 +1,5 @@
 -- `headend_limits::limits::is_sharing_at` meets its contract.
+use mathlib.Core.Path.{refl}
 use Rattle.headend_limits.specs.Limits.{sharesAt}
 use borrow.Author.Needs.{needs}
 use Rattle.headend_limits.proofs.limits.is_sharing_at.Statement.{statement}
@@ -15,7 +16,7 @@ is-listing-requires c κs = search needs
 
 returns : tie.Need-returns
 unfolding sharesAt
-returns c = cc
+returns c = rw (c .is-listing .ensures) refl
 
 pub is-sharing-at-spec : {M : Type 1} → statement M
 is-sharing-at-spec =

@@ -1,4 +1,5 @@
 -- `headend_limits::limits::listing_fits` meets its contract.
+use mathlib.Core.Path.{refl}
 use Rattle.headend_limits.specs.Limits.{listingFits}
 use borrow.Author.Needs.{needs}
 use Rattle.headend_limits.proofs.limits.listing_fits.Statement.{statement}
@@ -18,7 +19,7 @@ place-fits-requires-4 c κs = search needs
 
 returns : tie.Need-returns
 unfolding listingFits
-returns c = cc
+returns c = rw (c .place-fits4 .ensures, c .before .place-fits3 .ensures, c .before .before .place-fits2 .ensures, c .before .before .before .place-fits .ensures) refl
 
 pub listing-fits-spec : {M : Type 1} → statement M
 listing-fits-spec =

@@ -1,4 +1,5 @@
 -- `headend_limits::limits::place_fits` meets its contract.
+use mathlib.Core.Path.{refl}
 use Rattle.headend_limits.specs.Limits.{placeFits}
 use borrow.Author.Needs.{needs}
 use Rattle.headend_limits.proofs.limits.place_fits.Statement.{statement}
@@ -24,7 +25,7 @@ suite-known-requires c κs = search needs
 
 returns : tie.Need-returns
 unfolding placeFits
-returns c = cc
+returns c = rw (c .suite-known .ensures, c .before .said-fits .ensures) refl
 
 pub place-fits-spec : {M : Type 1} → statement M
 place-fits-spec =

@@ -1,4 +1,5 @@
 -- `headend_limits::search::found_suits` meets its contract.
+use mathlib.Core.Path.{refl}
 use borrow.Author.Needs.{needs}
 use Rattle.headend_limits.proofs.search.found_suits.Statement.{statement}
 use Rattle.headend_limits.proofs.search.found_suits.Tie as tie
@@ -13,7 +14,7 @@ is-listing-suite-requires : tie.Need-is-listing-suite-requires
 is-listing-suite-requires c κs = search needs
 
 returns : tie.Need-returns
-returns c = cc
+returns c = rw (c .is-listing-suite .ensures, c .before .record-fits .ensures, c .before .before .half-in .ensures) refl
 
 pub found-suits-spec : {M : Type 1} → statement M
 found-suits-spec =

@@ -1,4 +1,5 @@
 -- `modem_limits::limits::modem_fits` meets its contract.
+use mathlib.Core.Path.{refl}
 use Rattle.modem_limits.specs.Limits.{modemFits}
 use borrow.Author.Needs.{needs}
 use Rattle.modem_limits.proofs.limits.modem_fits.Statement.{statement}
@@ -27,7 +28,7 @@ saids-differ-requires c κs = search needs
 
 returns : tie.Need-returns
 unfolding modemFits
-returns c = cc
+returns c = rw (c .saids-differ .ensures, c .before .slot-fits4 .ensures, c .before .before .slot-fits3 .ensures, c .before .before .before .slot-fits2 .ensures, c .before .before .before .before .slot-fits .ensures, c .before .before .before .before .before .before .authorization-fits .ensures, c .before .before .before .before .before .before .before .before .before .before .settings-fit .ensures) refl
 
 pub modem-fits-spec : {M : Type 1} → statement M
 modem-fits-spec =

@@ -1,4 +1,5 @@
 -- `modem_limits::limits::slot_fits` meets its contract.
+use mathlib.Core.Path.{refl}
 use Rattle.modem_limits.specs.Limits.{slotFits}
 use borrow.Author.Tests.{lt-ltb, le-ltb}
 use borrow.Author.Needs.{needs}
@@ -16,14 +17,14 @@ tek-fits-requires c κs = search needs
 
 returns : tie.Need-returns
 unfolding slotFits
-returns c = simp (lt-ltb _ _ (c .before .if1 .taken)) (cc)
+returns c = simp (lt-ltb _ _ (c .before .if1 .taken)) (rw (c .tek-fits .ensures) refl)
 
 tek-zero-requires : tie.Need-tek-zero-requires
 tek-zero-requires c κs = search needs
 
 returns-2 : tie.Need-returns-2
 unfolding slotFits
-returns-2 c = simp (le-ltb _ _ (c .before .if1 .left)) (cc)
+returns-2 c = simp (le-ltb _ _ (c .before .if1 .left)) (rw (c .tek-zero .ensures) refl)
 
 pub slot-fits-spec : {M : Type 1} → statement M
 slot-fits-spec =

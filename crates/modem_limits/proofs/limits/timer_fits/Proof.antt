@@ -1,4 +1,5 @@
 -- `modem_limits::limits::timer_fits` meets its contract.
+use mathlib.Core.Path.{refl}
 use Rattle.modem_limits.specs.Limits.{timerFits}
 use borrow.Author.Needs.{needs}
 use Rattle.modem_limits.proofs.limits.timer_fits.Statement.{statement}
@@ -9,7 +10,7 @@ is-within-requires c κs = search needs
 
 returns : tie.Need-returns
 unfolding timerFits
-returns c = simp (c .before .before .if1 .taken) (cc)
+returns c = simp (c .before .before .if1 .taken) (rw (c .is-within .ensures) refl)
 
 returns-2 : tie.Need-returns-2
 unfolding timerFits

@@ -1,4 +1,5 @@
 -- `modem_reply::listed::is_listed` meets its contract.
+use mathlib.Core.Path.{refl}
 use Rattle.modem_reply.specs.Listed.{lists}
 use borrow.Author.Needs.{needs}
 use Rattle.modem_reply.proofs.listed.is_listed.Statement.{statement}
@@ -18,7 +19,7 @@ has-at-requires-4 c κs = search needs
 
 returns : tie.Need-returns
 unfolding lists
-returns c = cc
+returns c = rw (c .has-at4 .ensures, c .before .has-at3 .ensures, c .before .before .has-at2 .ensures, c .before .before .before .has-at .ensures) refl
 
 pub is-listed-spec : {M : Type 1} → statement M
 is-listed-spec =

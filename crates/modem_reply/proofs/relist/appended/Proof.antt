@@ -1,4 +1,5 @@
 -- `modem_reply::relist::appended` meets its contract.
+use mathlib.Core.Path.{refl}
 use Rattle.modem_reply.specs.Relist.{appended}
 use borrow.Author.Tests.{le-leb, lt-leb}
 use borrow.Author.Needs.{needs}
@@ -23,7 +24,7 @@ with-message-requires c κs = search needs
 
 returns-2 : tie.Need-returns-2
 unfolding appended
-returns-2 c = (simp (lt-leb _ _ (c .before .before .before .before .if1 .left)) (cc), c .before .before .before .before .before .before .pre)
+returns-2 c = (simp (lt-leb _ _ (c .before .before .before .before .if1 .left)) (rw (c .with-message .ensures) refl), c .before .before .before .before .before .before .pre)
 
 pub appended-spec : {M : Type 1} → statement M
 appended-spec =

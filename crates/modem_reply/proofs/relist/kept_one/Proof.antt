@@ -1,4 +1,5 @@
 -- `modem_reply::relist::kept_one` meets its contract.
+use mathlib.Core.Path.{refl}
 use Rattle.modem_reply.specs.Relist.{keptOne}
 use borrow.Author.Needs.{needs}
 use Rattle.modem_reply.proofs.relist.kept_one.Statement.{statement}
@@ -18,7 +19,7 @@ kept-if-requires c κs = search needs
 
 returns : tie.Need-returns
 unfolding keptOne
-returns c = (cc, c .kept-if .ensures .1)
+returns c = (rw (c .kept-if .ensures .0, c .before .survives .ensures) refl, c .kept-if .ensures .1)
 
 pub kept-one-spec : {M : Type 1} → statement M
 kept-one-spec =

@@ -1,4 +1,5 @@
 -- `modem_reply::relist::relisted` meets its contract.
+use mathlib.Core.Path.{refl}
 use Rattle.modem_reply.specs.Relist.{relisted, keptTo}
 use borrow.Author.Needs.{needs}
 use Rattle.modem_reply.proofs.relist.relisted.Statement.{statement}
@@ -24,7 +25,18 @@ started-all-requires c κs = search needs
 
 returns : tie.Need-returns
 unfolding relisted keptTo
-returns c = (cc, c .started-all .ensures .1)
+returns c = (
+  rw (
+    c .started-all .ensures .0,
+    c .before .kept-one4 .ensures .0,
+    c .before .before .kept-one3 .ensures .0,
+    c .before .before .before .kept-one2 .ensures .0,
+    c .before .before .before .before .kept-one .ensures .0,
+    c .before .before .before .before .before .emptied .ensures .0,
+  )
+      refl,
+  c .started-all .ensures .1,
+)
 
 pub relisted-spec : {M : Type 1} → statement M
 relisted-spec =

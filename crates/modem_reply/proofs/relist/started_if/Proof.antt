@@ -1,4 +1,5 @@
 -- `modem_reply::relist::started_if` meets its contract.
+use mathlib.Core.Path.{refl}
 use Rattle.modem_reply.specs.Relist.{startedIf}
 use borrow.Author.Tests.{not-true, not-false}
 use Rattle.modem_steps.proofs.ReadyLaws.{tek-ready, none-short}
@@ -27,7 +28,11 @@ appended-requires c κs = search needs
 
 returns-2 : tie.Need-returns-2
 unfolding startedIf
-returns-2 c = (simp (not-false (c .before .before .before .before .before .before .before .args .new) (c .before .before .before .before .before .before .if1 .left)) (cc), c .appended .ensures .1)
+returns-2 c = (
+  simp (not-false (c .before .before .before .before .before .before .before .args .new) (c .before .before .before .before .before .before .if1 .left))
+      (rw (c .appended .ensures .0, c .before .step .ensures, c .before .before .fresh-tek .ensures, c .before .before .before .no-params .ensures, c .before .before .before .before .tek-context .ensures) refl),
+  c .appended .ensures .1,
+)
 
 pub started-if-spec : {M : Type 1} → statement M
 started-if-spec =

@@ -1,4 +1,5 @@
 -- `modem_reply::relist::started_one` meets its contract.
+use mathlib.Core.Path.{refl}
 use Rattle.modem_reply.specs.Relist.{startedOne}
 use borrow.Author.Needs.{needs}
 use Rattle.modem_reply.proofs.relist.started_one.Statement.{statement}
@@ -18,7 +19,7 @@ started-if-requires c κs = search needs
 
 returns : tie.Need-returns
 unfolding startedOne
-returns c = (cc, c .started-if .ensures .1)
+returns c = (rw (c .started-if .ensures .0, c .before .slot-of-said .ensures .0) refl, c .started-if .ensures .1)
 
 pub started-one-spec : {M : Type 1} → statement M
 started-one-spec =

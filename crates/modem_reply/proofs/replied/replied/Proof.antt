@@ -1,4 +1,5 @@
 -- `modem_reply::replied::replied` meets its contract.
+use mathlib.Core.Path.{refl}
 use Rattle.modem_steps.proofs.ReadyLaws.{started-ready}
 use Rattle.modem_reply.specs.Replied.{replied}
 use borrow.Author.Tests.{eq-eqb, ne-eqb}
@@ -17,14 +18,16 @@ relisted-requires c κs = search needs
 
 returns : tie.Need-returns
 unfolding replied
-returns c = simp (eq-eqb _ _ (c .before .if1 .taken)) (cc)
+returns c = simp (eq-eqb _ _ (c .before .if1 .taken))
+    (rw (c .relisted .ensures .0, c .before .before .before .deliver-auth .ensures .0, c .before .before .before .before .start .ensures) refl)
 
 listed-anew-requires : tie.Need-listed-anew-requires
 listed-anew-requires c κs = search needs
 
 returns-2 : tie.Need-returns-2
 unfolding replied
-returns-2 c = simp (ne-eqb _ _ (c .before .if1 .left)) (cc)
+returns-2 c = simp (ne-eqb _ _ (c .before .if1 .left))
+    (rw (c .listed-anew .ensures .0, c .before .before .before .deliver-auth .ensures .0, c .before .before .before .before .start .ensures) refl)
 
 pub replied-spec : {M : Type 1} → statement M
 replied-spec =

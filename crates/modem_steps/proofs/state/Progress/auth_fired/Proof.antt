@@ -1,6 +1,6 @@
 -- `modem_steps::state::Progress::auth_fired` meets its contract.
 use Rattle.modem_steps.specs.Clock.{authFired}
-use mathlib.Core.Path.{sym, _∙_}
+use mathlib.Core.Path.{refl, sym, _∙_}
 use borrow.Author.Needs.{needs}
 use Rattle.modem_steps.proofs.state.Progress.auth_fired.Statement.{statement}
 use Rattle.modem_steps.proofs.state.Progress.auth_fired.Tie as tie
@@ -16,7 +16,7 @@ plain-event-requires c κs = search needs
 
 returns : tie.Need-returns
 unfolding authFired
-returns c = (simp (sym (c .before .before .before .is-due .ensures) ∙ c .before .before .if1 .taken) (cc), c .plain-event .ensures .1)
+returns c = (simp (sym (c .before .before .before .is-due .ensures) ∙ c .before .before .if1 .taken) (rw (c .plain-event .ensures .0, c .before .auth-timer-event .ensures) refl), c .plain-event .ensures .1)
 
 returns-2 : tie.Need-returns-2
 unfolding authFired

@@ -1,4 +1,5 @@
 -- `modem_steps::state::Progress::auth_stepped` meets its contract.
+use mathlib.Core.Path.{refl}
 use Rattle.modem_steps.specs.Machine.{authStepped}
 use borrow.Author.Needs.{needs}
 use Rattle.modem_steps.proofs.state.Progress.auth_stepped.Statement.{statement}
@@ -12,7 +13,7 @@ with-message-requires-2 c κs = search needs
 
 returns : tie.Need-returns
 unfolding authStepped
-returns c = (cc, c .before .before .before .before .before .before .before .pre)
+returns c = (rw (c .with-message2 .ensures, c .before .with-message .ensures) refl, c .before .before .before .before .before .before .before .pre)
 
 pub auth-stepped-spec : {M : Type 1} → statement M
 auth-stepped-spec = tie.close (tie.spec with-message-requires with-message-requires-2 returns)

@@ -1,4 +1,5 @@
 -- `modem_steps::state::Progress::deliver_all` meets its contract.
+use mathlib.Core.Path.{refl}
 use Rattle.modem_steps.specs.Slots.{deliverAll}
 use borrow.Author.Needs.{needs}
 use Rattle.modem_steps.proofs.state.Progress.deliver_all.Statement.{statement}
@@ -18,7 +19,10 @@ deliver-requires-4 c κs = search needs
 
 returns : tie.Need-returns
 unfolding deliverAll
-returns c = (cc, c .deliver4 .ensures .1)
+returns c = (
+  rw (c .deliver4 .ensures .0, c .before .deliver3 .ensures .0, c .before .before .deliver2 .ensures .0, c .before .before .before .deliver .ensures .0) refl,
+  c .deliver4 .ensures .1,
+)
 
 pub deliver-all-spec : {M : Type 1} → statement M
 deliver-all-spec =

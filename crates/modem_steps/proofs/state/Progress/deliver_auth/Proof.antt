@@ -1,4 +1,5 @@
 -- `modem_steps::state::Progress::deliver_auth` meets its contract.
+use mathlib.Core.Path.{refl}
 use Rattle.modem_steps.proofs.ReadyLaws.{auth-ready}
 use Rattle.modem_steps.specs.Machine.{deliverAuth}
 use borrow.Author.Needs.{needs}
@@ -16,7 +17,7 @@ auth-stepped-requires c κs = search needs
 
 returns : tie.Need-returns
 unfolding deliverAuth
-returns c = (cc, c .auth-stepped .ensures .1)
+returns c = (rw (c .auth-stepped .ensures .0, c .before .step .ensures, c .before .before .auth-context .ensures) refl, c .auth-stepped .ensures .1)
 
 pub deliver-auth-spec : {M : Type 1} → statement M
 deliver-auth-spec =

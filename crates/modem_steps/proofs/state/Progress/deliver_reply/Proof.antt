@@ -1,4 +1,5 @@
 -- `modem_steps::state::Progress::deliver_reply` meets its contract.
+use mathlib.Core.Path.{refl}
 use Rattle.modem_steps.proofs.ReadyLaws.{tek-ready}
 use Rattle.modem_steps.specs.Slots.{deliverReply}
 use borrow.Author.Needs.{needs}
@@ -22,7 +23,7 @@ stepped-at-requires c κs = search needs
 
 returns : tie.Need-returns
 unfolding deliverReply
-returns c = (cc, c .stepped-at .ensures .1)
+returns c = (rw (c .stepped-at .ensures .0, c .before .step .ensures, c .before .before .tek-context .ensures) refl, c .stepped-at .ensures .1)
 
 pub deliver-reply-spec : {M : Type 1} → statement M
 deliver-reply-spec =

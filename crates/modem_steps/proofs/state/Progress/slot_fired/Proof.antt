@@ -1,6 +1,6 @@
 -- `modem_steps::state::Progress::slot_fired` meets its contract.
 use Rattle.modem_steps.specs.Clock.{slotFired}
-use mathlib.Core.Path.{sym, _∙_}
+use mathlib.Core.Path.{refl, sym, _∙_}
 use borrow.Author.Needs.{needs}
 use Rattle.modem_steps.proofs.state.Progress.slot_fired.Statement.{statement}
 use Rattle.modem_steps.proofs.state.Progress.slot_fired.Tie as tie
@@ -22,7 +22,7 @@ deliver-requires c κs = search needs
 
 returns : tie.Need-returns
 unfolding slotFired
-returns c = (simp (sym (c .before .before .before .is-due .ensures) ∙ c .before .before .if1 .taken) (cc), c .deliver .ensures .1)
+returns c = (simp (sym (c .before .before .before .is-due .ensures) ∙ c .before .before .if1 .taken) (rw (c .deliver .ensures .0, c .before .tek-timer-event .ensures) refl), c .deliver .ensures .1)
 
 returns-2 : tie.Need-returns-2
 unfolding slotFired

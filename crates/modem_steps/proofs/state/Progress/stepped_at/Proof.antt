@@ -1,4 +1,5 @@
 -- `modem_steps::state::Progress::stepped_at` meets its contract.
+use mathlib.Core.Path.{refl}
 use Rattle.modem_steps.specs.Slots.{steppedAt}
 use borrow.Author.Needs.{needs}
 use Rattle.modem_steps.proofs.state.Progress.stepped_at.Statement.{statement}
@@ -15,7 +16,7 @@ with-message-requires c κs = search needs
 
 returns : tie.Need-returns
 unfolding steppedAt
-returns c = (cc, c .before .before .before .before .before .pre .1)
+returns c = (rw (c .with-message .ensures) refl, c .before .before .before .before .before .pre .1)
 
 pub stepped-at-spec : {M : Type 1} → statement M
 stepped-at-spec = tie.close (tie.spec mul-machine element-set-from-machine with-message-requires returns)
