@@ -321,7 +321,7 @@ typedef struct {
     uint64_t address; /* 48 bits */
     uint16_t said;    /* its own, which Authorization Requests carry; at most 16,383 */
     uint64_t clock;   /* at most 10^12 */
-    uint8_t counter;  /* the Identifier of the last new request */
+    uint8_t counter;  /* the Identifier of the last new request; 0 before the first, and 1 follows 255 */
     curlewreel_authorization authorization;
     size_t used;                           /* how many of the four machines are in use, from the front; 0 to 4 */
     curlewreel_tek teks[CURLEWREEL_SAIDS]; /* those in use have different SAIDs */

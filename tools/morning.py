@@ -3,6 +3,7 @@
 asked one after the other of a program that replays calls. `tools/morning.py PROGRAM > crates/replay/stdin`, and `PROGRAM < crates/replay/stdin > crates/replay/stdout`; the outside implementation was the
 program."""
 import hashlib
+import hmac
 import subprocess
 import sys
 
@@ -62,6 +63,12 @@ def down(octets, ak=0, own=0, key=None):
 def with_digest(octets):
     """the message with an attribute of type 11 before the others: 20 octets of any value"""
     return octets[:4] + "%04x" % (int(octets[4:8], 16) + 23) + "0b0014" + "5a" * 20 + octets[8:]
+
+
+def renumbered(octets, identifier, ak=0):
+    """a Key Request with another Identifier, and the digest that it has then"""
+    head = octets[:2] + "%02x" % identifier + octets[4:-46]
+    return head + octets[-46:-40] + hmac.new(bytes.fromhex(up_key(ak)), bytes.fromhex(head), hashlib.sha1).hexdigest()
 
 
 def clock(second, tag): return call("clock,%d,%s,%s" % (second, material(tag, 3), up_key()))
@@ -150,4 +157,9 @@ renewed = call("reauth")[0]
 assert down(with_digest(up(renewed, ak=1)[0]), ak=1, own=1) == [""]
 down(up(asked)[0], own=1)
 open_up(LOBBY, seal_up(LOBBY), ak=1)
+
+# a request of another make of modem, numbered 0: the head-end answers it; the hotel's modem, whose requests are never numbered so, does not wait for the answer
+nought = up(renumbered(asked, 0))[0]
+assert nought[:4] == "0800"
+assert down(nought, own=1) == []
 print("\n".join(calls))

@@ -9,6 +9,7 @@ mod digests;
 mod ends_library;
 mod engine;
 mod forge;
+mod identifiers;
 mod keys;
 mod make;
 mod plant;
@@ -27,6 +28,7 @@ use curlewreel_outside::message::{read, End};
 use curlewreel_outside::replay::Ends;
 use digests::Digests;
 use ends_library::{Lengths, Run};
+use identifiers::Identifiers;
 use plant::Plant;
 use random::Random;
 use state::{State, RECORDS};
@@ -52,6 +54,7 @@ struct List<'a> {
     transitions: &'a mut Transitions,
     ahead: &'a mut Ahead,
     digests: &'a mut Digests,
+    identifiers: &'a mut Identifiers,
 }
 
 impl List<'_> {
@@ -198,9 +201,10 @@ impl List<'_> {
         if wanted == "1" && self.r.one_in(4) {
             lengths.out = self.r.below(call.room() as u64 + 1) as usize;
         }
-        Run::new(&state, lengths, self.r.next() as u8)
+        let (_, given) = Run::new(&state, lengths, self.r.next() as u8)
             .compared(call, &state, &wanted, &ends)
             .map_err(|e| format!("records moved ahead, a slice of {}: {e}\n{:?}", lengths.out, before.records))?;
+        Identifiers::none_numbered_0(&line, &given);
         number_of(&wanted).into_iter().for_each(|n| self.count(call, n));
         self.ahead.add(call, plain, &wanted, &before, &ends.head);
         Ok(())
@@ -230,8 +234,10 @@ impl List<'_> {
         }
         let lengths = self.lengths(&call);
         let run = Run::new(&self.state, lengths, self.r.next() as u8);
-        let after = run.compared(&call, &self.state, &wanted, &self.plant.ends).map_err(shown)?;
+        let (after, given) = run.compared(&call, &self.state, &wanted, &self.plant.ends).map_err(shown)?;
         self.transitions.add(&self.state.modem, &after.modem);
+        Identifiers::none_numbered_0(&line, &given);
+        self.identifiers.add(&line, &given, &self.state.machines(), &after.machines());
         self.state = after;
         self.count(&call, answer);
         self.digests.add(&line, &wanted);
@@ -253,16 +259,17 @@ fn main() {
     let mut args = std::env::args().skip(1).map(|a| a.parse::<u64>().expect("a number"));
     let (lists, calls, seed) = (args.next().unwrap_or(500), args.next().unwrap_or(400), args.next().unwrap_or(1));
     let (mut headend, mut modem, mut codes, mut transitions) = (Tally::default(), Tally::default(), [0; 13], Transitions::default());
-    let (mut ahead, mut digests) = (Ahead::default(), Digests::default());
+    let (mut ahead, mut digests, mut identifiers) = (Ahead::default(), Digests::default(), Identifiers::default());
     set_ups::wrong_set_ups(&mut Random(seed));
     for i in 0..lists {
         let (mut plant, _) = Plant::new(seed + i);
         let mut r = Random(!(seed + i));
         let state = set_ups::start(&mut plant, &mut r);
         let (headend, modem, codes, transitions) = (&mut headend, &mut modem, &mut codes, &mut transitions);
-        let (ahead, digests) = (&mut ahead, &mut digests);
+        let (ahead, digests, identifiers) = (&mut ahead, &mut digests, &mut identifiers);
         digests.renumbered.begin();
-        let mut list = List { plant, state, r, headend, modem, codes, transitions, ahead, digests };
+        identifiers.begin();
+        let mut list = List { plant, state, r, headend, modem, codes, transitions, ahead, digests, identifiers };
         for at in 0..plant::lists::calls_of(seed + i, calls) {
             if let Err(e) = list.next() {
                 fail(&format!("differs, list {}, call {at}: {e}", seed + i));
@@ -281,4 +288,5 @@ fn main() {
     transitions.told();
     ahead.told();
     digests.told("both ends");
+    identifiers.told("both ends");
 }

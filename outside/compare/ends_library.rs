@@ -109,8 +109,8 @@ impl Run {
         }
     }
 
-    /// The call: its answer, and all that it leaves of the state `before` it, have to be the outside ends'. Gives the state after it.
-    pub fn compared(mut self, call: &Call, before: &State, wanted: &str, ends: &Ends) -> Result<State, String> {
+    /// The call: its answer, and all that it leaves of the state `before` it, have to be the outside ends'. Gives the state after it, and the answer.
+    pub fn compared(mut self, call: &Call, before: &State, wanted: &str, ends: &Ends) -> Result<(State, String), String> {
         let (number, given) = self.call(call)?;
         if given != wanted {
             return Err(format!("library {given}\n outside {wanted}"));
@@ -120,7 +120,7 @@ impl Run {
             return Err("a record was changed".to_string());
         }
         self.state.compare(before, ends)?;
-        Ok(self.state)
+        Ok((self.state, given))
     }
 
     fn records(&self) -> *const Record {

@@ -8,6 +8,8 @@ use crate::random::Random;
 use crate::text;
 use curlewreel_outside::replay::Ends;
 
+#[path = "plant_identifiers.rs"]
+mod identifiers;
 #[path = "plant_lists.rs"]
 pub mod lists;
 #[path = "plant_messages.rs"]
@@ -34,6 +36,8 @@ pub struct Plant {
     frames: Vec<Frame>,
     auth_keys: AuthKeys,
     first: bool,
+    /// The Identifier that the modem's requests are brought to, until they are there.
+    near: Option<u8>,
 }
 
 pub fn hex(octets: &[u8]) -> String {
@@ -45,7 +49,7 @@ pub fn unhex(text: &str) -> Vec<u8> {
 }
 
 /// The messages that stand end to end.
-fn apart(octets: &[u8]) -> Vec<Vec<u8>> {
+pub fn apart(octets: &[u8]) -> Vec<Vec<u8>> {
     let (mut out, mut rest) = (Vec::new(), octets);
     while rest.len() >= 4 {
         let n = 4 + usize::from(rest[2]) * 256 + usize::from(rest[3]);
@@ -64,8 +68,10 @@ impl Plant {
         // by the seed itself, so that a few lists have each kind
         let (listings, far) = (if seed % 8 == 3 { 30 } else { 2 }, seed % 12 == 7);
         let (saids, up, down, frames) = (Vec::new(), Vec::new(), Vec::new(), Vec::new());
-        let auth_keys = AuthKeys::default();
-        (Plant { r, ends, life, aklife, address, clock: 0, listings, far, saids, up, down, frames, auth_keys, first: true }, input)
+        let (auth_keys, near) = (AuthKeys::default(), lists::is_near_255(seed).then(|| r.pick(&[245, 250, 255])));
+        let plant =
+            Plant { r, ends, life, aklife, address, clock: 0, listings, far, saids, up, down, frames, auth_keys, first: true, near };
+        (plant, input)
     }
 
     /// The next call, and what the outside implementation answers.
@@ -172,6 +178,9 @@ impl Plant {
     }
 
     fn call(&mut self) -> String {
+        if let Some(call) = self.to_255() {
+            return call;
+        }
         if self.r.below(100) < self.listings {
             return self.list();
         }

@@ -3,6 +3,7 @@
 use super::Plant;
 use crate::random::Random;
 use crate::text;
+use curlewreel_outside::modem::Modem;
 
 /// The four lines, the lives of both kinds of key, and the modem's address.
 pub fn set_up(r: &mut Random) -> (String, u64, u64, u64) {
@@ -26,29 +27,37 @@ pub fn set_up(r: &mut Random) -> (String, u64, u64, u64) {
     (text, life, aklife, address)
 }
 
-/// How many calls a list has: one list in twenty has twelve times as many, so that Identifiers and key numbers come round.
+/// Is the modem's counter brought near 255 in this list?
+pub fn is_near_255(seed: u64) -> bool {
+    matches!(seed % 8, 2 | 4 | 6) || seed.is_multiple_of(20)
+}
+
+/// How many calls a list has: one list in twenty has twelve times as many, so that key numbers come round; one in which the modem's counter is
+/// brought near 255 has as many more as that takes.
 pub fn calls_of(seed: u64, calls: u64) -> u64 {
-    if seed.is_multiple_of(20) {
-        12 * calls
-    } else {
-        calls
-    }
+    let more = if is_near_255(seed) { 100 } else { 0 };
+    more + if seed.is_multiple_of(20) { 12 * calls } else { calls }
 }
 
 /// A whole list with its answers. One in eight has a set-up that is wrong, and then the answers are what is printed instead; some have no
-/// line end at the end.
-pub fn list(seed: u64, calls: u64) -> (String, String) {
+/// line end at the end. `seen` gets the modem before the first call and after each, where the set-up is not made wrong.
+pub fn list(seed: u64, calls: u64, mut seen: impl FnMut(&Modem)) -> (String, String) {
     let (mut plant, mut input) = Plant::new(seed);
     let mut output = String::new();
     let mut r = Random(!seed);
     let wrong = seed % 8 == 5;
     if wrong {
         input = text::wrong_start(&mut r, seed / 8, &input);
+    } else {
+        seen(&plant.ends.modem);
     }
     for _ in 0..calls {
         let (call, answer) = plant.next();
         input += &(call + "\n");
         output += &(answer + "\n");
+        if !wrong {
+            seen(&plant.ends.modem);
+        }
     }
     output += &plant.frames();
     if r.one_in(4) {

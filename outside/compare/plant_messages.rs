@@ -75,6 +75,10 @@ impl Plant {
         if let Some(octets) = renumbered {
             return self.under_right_keys(up, &octets);
         }
+        let numbered_0 = if up && self.r.one_in(30) { self.numbered_0() } else { None };
+        if let Some(call) = numbered_0 {
+            return call;
+        }
         let (mut octets, changed) = self.copy(up);
         if !up {
             let (read, write) = self.at_modem(&octets);
@@ -91,7 +95,7 @@ impl Plant {
     }
 
     /// The message as it is, from the modem's own address.
-    fn under_right_keys(&mut self, up: bool, octets: &[u8]) -> String {
+    pub(super) fn under_right_keys(&mut self, up: bool, octets: &[u8]) -> String {
         if up {
             let (address, pair) = (self.address, self.at_headend(self.address, octets));
             return format!("up,{address},{},{},07,{}", hex(&pair.up), hex(&pair.down), hex(octets));
@@ -101,7 +105,7 @@ impl Plant {
     }
 
     /// The keys of what a message to the head-end names.
-    fn at_headend(&mut self, address: u64, octets: &[u8]) -> Pair {
+    pub(super) fn at_headend(&mut self, address: u64, octets: &[u8]) -> Pair {
         let number = read(End::HeadEnd, octets).map_or(0, |m| m.fields.ak_number);
         self.auth_keys.at_headend(&mut self.r, address, number)
     }
@@ -115,7 +119,7 @@ impl Plant {
     }
 
     /// The octets lent for an Authorization Reply: the last ones again where no authorization key will be made.
-    fn auth_key(&mut self, address: u64) -> Vec<u8> {
+    pub(super) fn auth_key(&mut self, address: u64) -> Vec<u8> {
         if self.r.one_in(25) {
             let n = self.r.pick(&[0, 256, 257]);
             return self.r.octets(n);

@@ -2,6 +2,7 @@
 
 mod digests;
 mod forge;
+mod identifiers;
 mod keys;
 mod make;
 mod plant;
@@ -12,6 +13,7 @@ mod tally;
 mod text;
 
 use digests::Digests;
+use identifiers::{Identifiers, Machines};
 use std::io::Write;
 use std::process::{Command, Stdio};
 use tally::{fail, number_of, Tally};
@@ -85,9 +87,10 @@ fn main() {
     let n = |at: usize| args[at].parse::<u64>().expect("a number");
     let (lists, calls, seed, program) = (n(0), n(1), n(2), &args[3]);
     let (mut tally, mut no_calls, mut wrong_forms, mut wrong_values, mut by_both) = (Tally::default(), 0, 0, 0, [0, 0]);
-    let mut digests = Digests::default();
+    let (mut digests, mut identifiers) = (Digests::default(), Identifiers::default());
     for list in seed..seed + lists {
-        let (input, wanted) = plant::lists::list(list, plant::lists::calls_of(list, calls));
+        let mut modems = Vec::new();
+        let (input, wanted) = plant::lists::list(list, plant::lists::calls_of(list, calls), |modem| modems.push(Machines::of(modem)));
         let given = printed(program, input.clone());
         if given != wanted.as_bytes() {
             differs(list, &input, wanted.as_bytes(), &given);
@@ -99,6 +102,7 @@ fn main() {
                 let both = refused_by_both(&input, &wanted);
                 by_both = [by_both[0] + both[0], by_both[1] + both[1]];
                 digests.add_list(&input, &wanted);
+                identifiers.add_list(&input, &String::from_utf8_lossy(&given), &modems);
                 wanted.lines().filter(|l| !l.starts_with("frames")).for_each(|l| match number_of(l) {
                     Some(n) => tally.add(n),
                     None => no_calls += 1,
@@ -111,6 +115,7 @@ fn main() {
     println!("outside: clock calls that the head-end refuses with 2 and the modem with 3: {}; with 3 and 2: {}", by_both[0], by_both[1]);
     tally.told("replay", &(0..15).collect::<Vec<_>>());
     digests.told("replay");
+    identifiers.told("replay");
     if [no_calls, wrong_forms, wrong_values, by_both[0], by_both[1]].contains(&0) {
         fail("a line that is no call, a set-up wrong in form or out of its limits, or a clock call that both ends refuse was not reached");
     }

@@ -2,6 +2,7 @@
 
 use crate::as_c::{headend_of, modem_of, record_of};
 use crate::engine::{Headend, Modem, Record};
+use crate::identifiers::Machines;
 use curlewreel_outside::replay::Ends;
 
 /// Records that are lent at most.
@@ -31,6 +32,13 @@ impl State {
     pub fn record(&self, at: usize) -> Record {
         assert!(at < RECORDS);
         unsafe { *self.places.as_ptr().cast::<Record>().add(at) }
+    }
+
+    /// The modem's counter and machines.
+    pub fn machines(&self) -> Machines {
+        let m = &self.modem;
+        let teks = m.teks.iter().take(m.used).map(|t| (b'A' + t.state, t.identifier)).collect();
+        Machines { counter: m.counter, authorization: b'A' + m.authorization.state, teks }
     }
 
     pub fn put_record(&mut self, at: usize, record: Record) {

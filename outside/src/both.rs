@@ -40,10 +40,14 @@ pub struct Both {
 impl Both {
     /// Both ends, the modem listed with SAIDs 8,800 (suite 256) and 8,801 (768).
     pub fn new() -> Both {
+        Both::listed(&[(SAID, 256), (SAID + 1, 768)])
+    }
+
+    /// Both ends, the modem listed with these SAIDs.
+    pub fn listed(saids: &[(u64, u64)]) -> Both {
         let mut head = HeadEnd::new(settings()).unwrap();
         let modem = Modem::new(settings(), ADDRESS, SAID).unwrap();
-        let saids = [(SAID, 256), (SAID + 1, 768)];
-        head.list(ADDRESS, true, &material(2, 0), &saids).unwrap();
+        head.list(ADDRESS, true, &material(saids.len(), 0), saids).unwrap();
         Both { head, modem, seed: 0 }
     }
 

@@ -18,6 +18,8 @@ mod ahead_tests;
 #[cfg(test)]
 mod both;
 #[cfg(test)]
+mod identifier_tests;
+#[cfg(test)]
 mod keyed_tests;
 #[cfg(test)]
 mod story_tests;

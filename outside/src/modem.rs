@@ -8,7 +8,7 @@ use crate::sent::{Sent, NO_KEY};
 use crate::settings::{address_fits, said_fits, Settings, LAST_SECOND};
 use crate::slot::Slot;
 
-/// The modem's state. `counter` is the last Identifier given; `asked` that of the last Authorization Request.
+/// The modem's state. `counter` is the Identifier of the last new request, 0 before the first; `asked` that of the last Authorization Request.
 #[derive(Clone, PartialEq, Eq, Debug)]
 pub struct Modem {
     pub settings: Settings,
@@ -51,9 +51,9 @@ impl Modem {
         })
     }
 
-    /// A new request's Identifier.
+    /// A new request's Identifier; 0 is skipped (document 02, M-101).
     fn identifier(&mut self) -> u8 {
-        self.counter = self.counter.wrapping_add(1);
+        self.counter = self.counter.wrapping_add(1).max(1);
         self.counter
     }
 

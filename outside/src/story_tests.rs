@@ -86,21 +86,21 @@ fn identifiers() {
     let mut b = Both::new();
     b.modem.counter = 254;
     let requests = b.authorized();
-    assert_eq!((b.modem.asked, requests[0][1], requests[1][1]), (255, 0, 1));
+    assert_eq!((b.modem.asked, requests[0][1], requests[1][1]), (255, 1, 2));
     // A resend keeps it.
     assert_eq!(b.clock(10), requests);
-    // 0 is unsolicited, also while a Key Request numbered 0 waits.
+    // 0 is unsolicited.
     let request = b.down(&[10, 0, 0, 4, 16, 0, 1, 4]);
-    assert_eq!(request, [vec![4, 2, 0, 5, 12, 0, 2, 0x22, 0x60]]);
+    assert_eq!(request, [vec![4, 3, 0, 5, 12, 0, 2, 0x22, 0x60]]);
     assert_eq!((b.modem.state, b.modem.slots[0].state), (b'D', b'B'));
     // In D it sends nothing, keeps the timer, and tells Pend to the request it answers.
-    assert!(b.down(&[10, 1, 0, 4, 16, 0, 1, 4]).is_empty());
+    assert!(b.down(&[10, 2, 0, 4, 16, 0, 1, 4]).is_empty());
     assert_eq!((b.modem.timer, b.modem.slots[1].state), (Some(20), b'C'));
     // D-C completes: the second asks anew, the first goes on waiting.
     let reply = b.up(&request[0]);
     let requests = b.down(&reply);
-    assert_eq!((requests.len(), requests[0][1]), (1, 3));
-    assert_eq!((b.modem.ak, b.modem.slots[0].identifier), (1, 0));
+    assert_eq!((requests.len(), requests[0][1]), (1, 4));
+    assert_eq!((b.modem.ak, b.modem.slots[0].identifier), (1, 1));
 }
 
 #[test]

@@ -30,10 +30,10 @@ pub in-c : (a : Authorization) (x : AuthContext) → a .state ≡ C → authStep
 unfolding authStepOf authMoved nextIn authorizationTransitions
 in-c a x e = simp e
 
-pub key-after : (t : Tek) (x : TekContext) (older newer : Params) → t .state ≡ D → x .counter ≡ 255 → tekStepOf t 7 x older newer .sends .identifier ≡ 0
+pub key-after : (t : Tek) (x : TekContext) (older newer : Params) → t .state ≡ D → x .counter ≡ 255 → tekStepOf t 7 x older newer .sends .identifier ≡ 1
 unfolding tekStepOf tekMoved tekSends identifierAfter nextIn tekTransitions
 key-after t x older newer e full = simp (e, full)
 
-pub auth-after : (a : Authorization) (x : AuthContext) → a .state ≡ C → x .counter ≡ 255 → authStepOf a 6 x .requests .identifier ≡ 0
+pub auth-after : (a : Authorization) (x : AuthContext) → a .state ≡ C → x .counter ≡ 255 → authStepOf a 6 x .requests .identifier ≡ 1
 unfolding authStepOf authMoved requestsOf authIdentifier nextIn authorizationTransitions
 auth-after a x e full = simp (e, full)

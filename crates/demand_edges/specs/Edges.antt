@@ -76,10 +76,10 @@ pub record Edges : Type 0 where
   pub invalid-in-f : (t : Tek) (x : TekContext) (older newer : Params) → t .state ≡ F → tekStepOf t 5 x older newer .machine .state ≡ C
   pub invalid-in-f-keys : (t : Tek) (x : TekContext) (older newer : Params) → t .state ≡ F → tekStepOf t 5 x older newer .machine .pair ≡ noPair
   pub invalid-in-f-sends : (t : Tek) (x : TekContext) (older newer : Params) → t .state ≡ F → tekStepOf t 5 x older newer .sends ≡ nothing
-  -- Identifier 255, then 0: by the counter's rule, and in the Key Request and the Authorization Request that come after 255
-  pub identifier-255 : nextIdentifier 255 ≡ 0
-  pub identifier-255-key : (t : Tek) (x : TekContext) (older newer : Params) → t .state ≡ D → x .counter ≡ 255 → tekStepOf t 7 x older newer .sends .identifier ≡ 0
-  pub identifier-255-auth : (a : Authorization) (x : AuthContext) → a .state ≡ C → x .counter ≡ 255 → authStepOf a 6 x .requests .identifier ≡ 0
+  -- Identifier 255, then 1 (document 02, M-101): by the counter's rule, and in the Key Request and the Authorization Request that come after 255
+  pub identifier-255 : nextIdentifier 255 ≡ 1
+  pub identifier-255-key : (t : Tek) (x : TekContext) (older newer : Params) → t .state ≡ D → x .counter ≡ 255 → tekStepOf t 7 x older newer .sends .identifier ≡ 1
+  pub identifier-255-auth : (a : Authorization) (x : AuthContext) → a .state ≡ C → x .counter ≡ 255 → authStepOf a 6 x .requests .identifier ≡ 1
   -- the Key Reply of I.6: Identifier 115, authorization key 7, SAID 8,800, numbers 2 and 3, lives 43,200 and 86,400
   pub reply-i6 : readOf AtModem replyI6 ≡ record { answer = Done; fields = fieldsI6; key = noPlace; digest = record { start = 88; len = 20 } }
   -- with Length 103: 8

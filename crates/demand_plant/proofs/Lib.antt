@@ -25,4 +25,7 @@ pub mod Counts
 pub mod SentRead
 pub mod Under
 pub mod UnderMessages
+pub mod NumberedSteps
 pub mod UnderRun
+pub mod Answered
+pub mod Identifiers

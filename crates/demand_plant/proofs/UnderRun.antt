@@ -1,5 +1,5 @@
 -- After any list of steps, whatever was lost, late or forged, a TEK machine that is not in Start stands under an authorization machine in Authorized or
--- Reauth Wait. So a Key Request waits under either of the two alone.
+-- Reauth Wait, so a Key Request waits under either of the two alone; and a request that waits has an Identifier other than 0.
 use mathlib.Core.Path.{_≡_, refl, sym, _∙_, ap}
 use mathlib.Core.Bool.{Bool, true, false, _||_, cond}
 use mathlib.Core.List.{List, [], _∷_}
@@ -28,6 +28,7 @@ use Rattle.questions.specs.Questions.{firstNo}
 use Rattle.modem_calls.specs.Calls.{resultOf, firstQuestions, eventOf, clockAnswer, clockOf, receiveAnswer, receiveOf}
 use Rattle.modem_calls.proofs.KeptMessages.{fresh-fits}
 use Rattle.modem_calls.proofs.CallLaws.{receive-asked}
+use Rattle.modem_calls.proofs.Numbered.{Waits, none-wait}
 use Rattle.modem_frames.specs.FrameRules.{withCounts, countedBy}
 use Rattle.modem_frames.specs.Frames.{openOf}
 use Rattle.modem_frames.proofs.FrameLaws.{open-by}
@@ -36,6 +37,7 @@ use Rattle.demand_plant.specs.World.{World, fresh, Step, list, clock, es
 use Rattle.demand_plant.specs.Run.{after, worldAfter}
 use Rattle.demand_plant.proofs.Under.{authorized, Under, Held, next, plain-held, deliver-held, clocked-held}
 use Rattle.demand_plant.proofs.UnderMessages.{received-held}
+use Rattle.demand_plant.proofs.NumberedSteps.{step-numbered}
 
 -- ---- the modem's calls
 result-held : (a : Answer) (m : Modem) (key : List ℕ) (w : Progress) → Held m → (a ≡ Done → Held (w .modem)) → Held (resultOf a m key w .called .modem)
@@ -83,28 +85,39 @@ module _ (m : Modem) (fits : modemFits m ≡ true) (h : Held m) where
 pub record Stands (w : World) : Type 0 where
   pub fits : modemFits (w .modem) ≡ true
   pub held : Held (w .modem)
+  pub waits : Waits (w .modem)
 
-step-stands : (w : World) (s : Step) → Stands w → Stands (after w s)
+-- the limits, and `Held`
+record StepHeld (m : Modem) : Type 0 where
+  fits : modemFits m ≡ true
+  held : Held m
+
+step-held : (w : World) (s : Step) → Stands w → StepHeld (after w s .modem)
 unfolding nextIn authorizationTransitions
-step-stands w (list address allowed l m) v = record { fits = v .fits; held = v .held }
-step-stands w (clock t m write lent) v = go (clockAnswers w t m write lent)
+step-held w (list address allowed l m) v = record { fits = v .fits; held = v .held }
+step-held w (clock t m write lent) v = go (clockAnswers w t m write lent)
   where
-    go : (b : Bool) → Stands (clockedBy b w t m write lent)
+    go : (b : Bool) → StepHeld (clockedBy b w t m write lent .modem)
     go true = record { fits = clock-fits (w .modem) lent t write (v .fits); held = clock-held (w .modem) (v .fits) (v .held) t write lent }
-    go false = v
-step-stands w (established lent) v = record { fits = established-fits (w .modem) lent (v .fits); held = event-held (w .modem) (v .fits) (v .held) 1 lent refl refl }
-step-stands w (reauth lent) v = record { fits = reauth-fits (w .modem) lent (v .fits); held = event-held (w .modem) (v .fits) (v .held) 8 lent refl refl }
-step-stands w (up address read write octets auth lent) v = record { fits = v .fits; held = v .held }
-step-stands w (down read write octets lent) v =
+    go false = record { fits = v .fits; held = v .held }
+step-held w (established lent) v = record { fits = established-fits (w .modem) lent (v .fits); held = event-held (w .modem) (v .fits) (v .held) 1 lent refl refl }
+step-held w (reauth lent) v = record { fits = reauth-fits (w .modem) lent (v .fits); held = event-held (w .modem) (v .fits) (v .held) 8 lent refl refl }
+step-held w (up address read write octets auth lent) v = record { fits = v .fits; held = v .held }
+step-held w (down read write octets lent) v =
     record { fits = receive-fits (w .modem) lent octets read write (v .fits); held = receive-held (w .modem) (v .fits) (v .held) octets read write lent }
-step-stands w (sealDown address said tek vector) v = v
-step-stands w (sealUp said tek vector) v = v
-step-stands w (openUp direction address said number write tek vector lent) v = record { fits = v .fits; held = v .held }
-step-stands w (openDown direction address said number write tek vector lent) v =
+step-held w (sealDown address said tek vector) v = record { fits = v .fits; held = v .held }
+step-held w (sealUp said tek vector) v = record { fits = v .fits; held = v .held }
+step-held w (openUp direction address said number write tek vector lent) v = record { fits = v .fits; held = v .held }
+step-held w (openDown direction address said number write tek vector lent) v =
     record {
       fits = open-fits (w .modem) direction address said number write tek vector lent (v .fits);
       held = open-held (w .modem) (v .fits) (v .held) direction address said number write tek vector lent;
     }
+
+step-stands : (w : World) (s : Step) → Stands w → Stands (after w s)
+step-stands w s v =
+    let h = step-held w s v in
+    record { fits = h .fits; held = h .held; waits = step-numbered w s (v .fits) (v .waits) .waits }
 
 pub run-stands : (w : World) (steps : List Step) → Stands w → Stands (worldAfter w steps)
 run-stands w [] v = v
@@ -113,7 +126,11 @@ run-stands w (s ∷ steps) v = run-stands (after w s) steps (step-stands w s v)
 pub fresh-stands : (settings : Settings) (address said : ℕ) (records : List Assoc) → settingsFit settings ≡ true → address < 281474976710656 → said ≤ 16383
     → Stands (fresh settings address said records)
 fresh-stands settings address said records fit below small =
-    record { fits = fresh-fits settings address said fit below small; held = by-four (λ i. slotAt (freshOf settings address said) i .state ≡ A) refl refl refl refl }
+    record {
+      fits = fresh-fits settings address said fit below small;
+      held = by-four (λ i. slotAt (freshOf settings address said) i .state ≡ A) refl refl refl refl;
+      waits = record { auth = λ q. never q; teks = none-wait };
+    }
 
 -- A Key Request waits under an authorization machine in C or D alone
 pub waits-under : (w : World) → Stands w → (i : ℕ) → i < 4 → isWaiting (slotAt (w .modem) i) ≡ true → authorized (w .modem .authorization .state) ≡ true

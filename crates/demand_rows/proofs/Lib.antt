@@ -14,3 +14,4 @@ pub mod RowsSixteen
 pub mod RowsLate
 pub mod RowsListed
 pub mod RowsSecond
+pub mod RowsPended

@@ -15,3 +15,4 @@ pub mod ReplyLaws
 pub mod SecondLaws
 pub mod FrameLaws
 pub mod FrameAnswers
+pub mod AnyIdentifier

@@ -20,7 +20,9 @@ pub mod ReplyMade
 pub mod ReplyLaws
 pub mod ReplyTaken
 pub mod SentRead
+pub mod WorkKept
 pub mod SentUp
+pub mod Numbered
 pub mod KeyLaws
 pub mod SentCalls
 pub mod CallMessages

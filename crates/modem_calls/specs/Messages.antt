@@ -1,8 +1,9 @@
 -- The octets of the messages that a call sends, one after the other (document 01, "Messages").
 use Prim.Native.Nat.{ℕ, _≤_, _<_}
 use mathlib.Core.Path.{_≡_}
-use mathlib.Core.Bool.{true}
+use mathlib.Core.Bool.{Bool, true, _||_}
 use mathlib.Core.List.{List, [], _∷_, _++_}
+use lib.Dec.{eqb}
 use lib.ListN.{length, take, getD, replicate}
 use Rattle.modem_tek.specs.declared.parts.Request.{Request}
 use Rattle.message_rules.specs.declared.fields.Fields.{Fields}
@@ -11,6 +12,10 @@ use Rattle.message_rules.specs.Limits.{fieldsFit, authKeyFits}
 use Rattle.message_digest.specs.Digest.{signedOf}
 use Rattle.modem_tek.specs.TekParts.{nothing}
 use Rattle.modem_steps.specs.declared.state.Out.{Out}
+
+-- An Authorization Request (4) or a Key Request (7): of what a modem sends, what has an Identifier of its own
+abbrev pub isRequest : ℕ → Bool
+isRequest code = eqb code 4 || eqb code 7
 
 -- 12 carries nothing, 4 a SAID, 7 an authorization key number and a SAID
 abbrev pub requestFields : Request → Fields

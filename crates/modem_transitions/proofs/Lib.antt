@@ -1,2 +1,3 @@
 pub mod CaseLaws
 pub mod TableLaws
+pub mod IdentifierLaws
