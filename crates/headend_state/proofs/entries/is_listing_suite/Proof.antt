@@ -1,4 +1,5 @@
 -- `headend_state::entries::is_listing_suite` meets its contract.
+use mathlib.Core.Path.{refl}
 use Rattle.headend_state.specs.Entries.{listsSuite}
 use borrow.Author.Needs.{needs}
 use Rattle.headend_state.proofs.entries.is_listing_suite.Statement.{statement}
@@ -30,7 +31,7 @@ array-read-result-8 c = search needs
 
 returns : tie.Need-returns
 unfolding listsSuite
-returns c = cc
+returns c = refl
 
 pub is-listing-suite-spec : {M : Type 1} → statement M
 is-listing-suite-spec =

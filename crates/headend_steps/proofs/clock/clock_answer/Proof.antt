@@ -1,4 +1,5 @@
 -- `headend_steps::clock::clock_answer` meets its contract.
+use mathlib.Core.Path.{refl}
 use Rattle.headend_steps.specs.Clock.{clockQuestions, clockAnswer}
 use borrow.Author.Needs.{needs}
 use Rattle.headend_steps.proofs.clock.clock_answer.Statement.{statement}
@@ -24,7 +25,7 @@ ask-requires-3 c κs = search needs
 
 returns : tie.Need-returns
 unfolding clockAnswer clockQuestions
-returns c = cc
+returns c = rw (c .ask3 .ensures, c .before .ask2 .ensures, c .before .before .ask .ensures, c .before .before .before .before .is-material .ensures, c .before .before .before .before .before .records-fit .ensures, c .before .before .before .before .before .before .head-fits .ensures) refl
 
 pub clock-answer-spec : {M : Type 1} → statement M
 clock-answer-spec =

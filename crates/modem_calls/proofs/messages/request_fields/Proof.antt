@@ -1,4 +1,5 @@
 -- `modem_calls::messages::request_fields` meets its contract.
+use mathlib.Core.Path.{refl}
 use borrow.Author.Needs.{needs}
 use Rattle.modem_calls.proofs.messages.request_fields.Statement.{statement}
 use Rattle.modem_calls.proofs.messages.request_fields.Tie as tie
@@ -10,7 +11,7 @@ no-descriptors-requires : tie.Need-no-descriptors-requires
 no-descriptors-requires c κs = search needs
 
 returns : tie.Need-returns
-returns c = cc
+returns c = rw (c .no-descriptors .ensures, c .before .before .no-params .ensures) refl
 
 pub request-fields-spec : {M : Type 1} → statement M
 request-fields-spec = tie.close (tie.spec no-params-requires no-descriptors-requires returns)

@@ -1,4 +1,5 @@
 -- `questions::settings::settings_fit` meets its contract.
+use mathlib.Core.Path.{refl}
 use Rattle.questions.specs.Settings.{settingsFit}
 use borrow.Author.Needs.{needs}
 use Rattle.questions.proofs.settings.settings_fit.Statement.{statement}
@@ -15,7 +16,7 @@ waits-fit-requires c κs = search needs
 
 returns : tie.Need-returns
 unfolding settingsFit
-returns c = cc
+returns c = rw (c .waits-fit .ensures, c .before .ak-times-fit .ensures, c .before .before .tek-times-fit .ensures) refl
 
 pub settings-fit-spec : {M : Type 1} → statement M
 settings-fit-spec =

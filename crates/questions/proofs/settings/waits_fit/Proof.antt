@@ -1,4 +1,5 @@
 -- `questions::settings::waits_fit` meets its contract.
+use mathlib.Core.Path.{refl}
 use Rattle.questions.specs.Settings.{waitsFit}
 use borrow.Author.Needs.{needs}
 use Rattle.questions.proofs.settings.waits_fit.Statement.{statement}
@@ -21,7 +22,7 @@ wait-fits-requires-5 c κs = search needs
 
 returns : tie.Need-returns
 unfolding waitsFit
-returns c = cc
+returns c = rw (c .wait-fits5 .ensures, c .before .wait-fits4 .ensures, c .before .before .wait-fits3 .ensures, c .before .before .before .wait-fits2 .ensures, c .before .before .before .before .wait-fits .ensures) refl
 
 pub waits-fit-spec : {M : Type 1} → statement M
 waits-fit-spec =

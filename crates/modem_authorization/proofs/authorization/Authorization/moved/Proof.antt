@@ -1,4 +1,5 @@
 -- `modem_authorization::authorization::Authorization::moved` meets its contract.
+use mathlib.Core.Path.{refl}
 use Rattle.modem_authorization.specs.Authorization.{authMoved}
 use borrow.Author.Needs.{needs}
 use Rattle.modem_authorization.proofs.authorization.Authorization.moved.Statement.{statement}
@@ -24,7 +25,7 @@ counter-after-requires c κs = search needs
 
 returns : tie.Need-returns
 unfolding authMoved
-returns c = cc
+returns c = rw (c .counter-after .ensures, c .before .requests-after .ensures, c .before .before .informs-of .ensures, c .before .before .before .timer-after .ensures, c .before .before .before .before .ak-after .ensures, c .before .before .before .before .before .identifier-after .ensures) refl
 
 pub moved-spec : {M : Type 1} → statement M
 moved-spec =
