@@ -164,10 +164,9 @@ fn put_key(out: &mut [u8], at: usize, k: KeyOctets) -> usize
     ensures { λ r. ⌜ Put (now (out .entry)) at (keyLaid k) r (now (out .exit)) ⌝ }
     ensures { λ r. ⌜ r ≡ at + 17 ⌝ }
 {
-    let o = k.octets;
-    let width = (k.width % 256) as u8;
-    let head = [width];
+    let head = [(k.width % 256) as u8];
     let a = put_octets(out, at, &head);
+    let o = k.octets;
     put_octets(out, a, &o)
 }
 
@@ -176,16 +175,16 @@ fn put_params(out: &mut [u8], at: usize, p: Params) -> usize
     ensures { λ r. ⌜ Put (now (out .entry)) at (paramsLaid p) r (now (out .exit)) ⌝ }
     ensures { λ r. ⌜ r ≡ at + 39 ⌝ }
 {
-    let tek = p.tek;
-    let vector = p.vector;
-    let first = (p.life / 16777216 % 256) as u8;
-    let second = (p.life / 65536 % 256) as u8;
-    let third = (p.life / 256 % 256) as u8;
-    let fourth = (p.life % 256) as u8;
-    let head = [p.number.0, first, second, third, fourth];
+    let head = [
+        p.number.0,
+        (p.life / 16777216 % 256) as u8,
+        (p.life / 65536 % 256) as u8,
+        (p.life / 256 % 256) as u8,
+        (p.life % 256) as u8,
+    ];
     let a = put_octets(out, at, &head);
-    let b = put_key(out, a, tek);
-    put_key(out, b, vector)
+    let b = put_key(out, a, p.tek);
+    put_key(out, b, p.vector)
 }
 
 fn put_descriptor(out: &mut [u8], at: usize, d: Descriptor) -> usize
@@ -206,14 +205,10 @@ fn put_descriptors(out: &mut [u8], at: usize, ds: [Descriptor; SAIDS_MAX]) -> us
     ensures { λ r. ⌜ Put (now (out .entry)) at (descriptorsLaid ds) r (now (out .exit)) ⌝ }
     ensures { λ r. ⌜ r ≡ at + 20 ⌝ }
 {
-    let first = ds[0];
-    let second = ds[1];
-    let third = ds[2];
-    let fourth = ds[3];
-    let a = put_descriptor(out, at, first);
-    let b = put_descriptor(out, a, second);
-    let c = put_descriptor(out, b, third);
-    put_descriptor(out, c, fourth)
+    let a = put_descriptor(out, at, ds[0]);
+    let b = put_descriptor(out, a, ds[1]);
+    let c = put_descriptor(out, b, ds[2]);
+    put_descriptor(out, c, ds[3])
 }
 
 // What stands before the descriptors.
@@ -221,25 +216,18 @@ fn put_head(out: &mut [u8], f: Fields) -> usize
     ensures { λ r. ⌜ Put (now (out .entry)) 0 (headLaid f) r (now (out .exit)) ⌝ }
     ensures { λ r. ⌜ r ≡ 11 ⌝ }
 {
-    let count = (f.count % 256) as u8;
-    let said_high = (f.said / 256 % 256) as u8;
-    let said_low = (f.said % 256) as u8;
-    let first = (f.life / 16777216 % 256) as u8;
-    let second = (f.life / 65536 % 256) as u8;
-    let third = (f.life / 256 % 256) as u8;
-    let fourth = (f.life % 256) as u8;
     let all = [
         f.code,
         f.identifier,
         f.ak.0,
         f.error,
-        count,
-        said_high,
-        said_low,
-        first,
-        second,
-        third,
-        fourth,
+        (f.count % 256) as u8,
+        (f.said / 256 % 256) as u8,
+        (f.said % 256) as u8,
+        (f.life / 16777216 % 256) as u8,
+        (f.life / 65536 % 256) as u8,
+        (f.life / 256 % 256) as u8,
+        (f.life % 256) as u8,
     ];
     put_octets(out, 0, &all)
 }
@@ -249,12 +237,10 @@ fn put_fields(out: &mut [u8], f: Fields) -> usize
     ensures { λ r. ⌜ r ≡ 109 ⌝ }
 {
     let descriptors = f.descriptors;
-    let older = f.older;
-    let newer = f.newer;
     let a = put_head(out, f);
     let b = put_descriptors(out, a, descriptors);
-    let c = put_params(out, b, older);
-    put_params(out, c, newer)
+    let c = put_params(out, b, f.older);
+    put_params(out, c, f.newer)
 }
 
 fn put_place(out: &mut [u8], at: usize, p: Place) -> usize
@@ -262,11 +248,12 @@ fn put_place(out: &mut [u8], at: usize, p: Place) -> usize
     ensures { λ r. ⌜ Put (now (out .entry)) at (placeLaid p) r (now (out .exit)) ⌝ }
     ensures { λ r. ⌜ r ≡ at + 4 ⌝ }
 {
-    let start_high = (p.start / 256 % 256) as u8;
-    let start_low = (p.start % 256) as u8;
-    let len_high = (p.len / 256 % 256) as u8;
-    let len_low = (p.len % 256) as u8;
-    let all = [start_high, start_low, len_high, len_low];
+    let all = [
+        (p.start / 256 % 256) as u8,
+        (p.start % 256) as u8,
+        (p.len / 256 % 256) as u8,
+        (p.len % 256) as u8,
+    ];
     put_octets(out, at, &all)
 }
 
@@ -284,12 +271,9 @@ pub fn put_reading(out: &mut [u8], r: Reading, holds: bool) -> usize
     ensures { λ n. ⌜ Put (now (out .entry)) 0 (readingOctets r holds) n (now (out .exit)) ⌝ }
     ensures { λ n. ⌜ n ≡ 118 ⌝ }
 {
-    let fields = r.fields;
-    let key = r.key;
-    let digest = r.digest;
-    let a = put_fields(out, fields);
-    let b = put_place(out, a, key);
-    let c = put_place(out, b, digest);
+    let a = put_fields(out, r.fields);
+    let b = put_place(out, a, r.key);
+    let c = put_place(out, b, r.digest);
     let last = [holds_octet(holds)];
     put_octets(out, c, &last)
 }

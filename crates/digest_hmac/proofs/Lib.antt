@@ -2,4 +2,3 @@
 pub mod KeyLaws
 pub mod SameLaws
 pub mod FillLaws
-pub mod Vectors

@@ -1,6 +1,5 @@
--- Laws of SHA-1: schedule, rounds, padding, blocks; and examples.
+-- Laws of SHA-1: schedule, rounds, padding, blocks.
 pub mod ScheduleLaws
 pub mod RoundLaws
 pub mod PadLaws
 pub mod BlockLaws
-pub mod Vectors

@@ -5,6 +5,7 @@ ghost use mathlib.Core.List.{_++_};
 ghost use lib.ListN.{length, take};
 ghost use Rattle.digest_sha1.specs.Sha1 as spec;
 use crate::sizes::BLOCK_OCTETS;
+use crate::words::put_word;
 
 // The octet behind the message: a bit 1 and seven bits 0.
 const MARK: u8 = 0x80;
@@ -23,18 +24,13 @@ pub fn marked(s: &[u8]) -> [u8; BLOCK_OCTETS]
     b
 }
 
-// A block whose last 8 octets are the length in bits of `n` octets (5.1.1). Eight times `n` may not fit a usize, so each octet is worked out from `n`.
+// A block whose last 8 octets are the length in bits of `n` octets (5.1.1). Eight times `n` may not fit a usize, so its two words are worked out
+// from `n`.
 pub fn with_length(block: [u8; BLOCK_OCTETS], n: usize) -> [u8; BLOCK_OCTETS]
     ensures { λ r. ⌜ r ≡ take 56 block ++ spec.octets8 (8 * n) ⌝ }
 {
     let mut b = block;
-    b[56] = (n / 9007199254740992 % 256) as u8;
-    b[57] = (n / 35184372088832 % 256) as u8;
-    b[58] = (n / 137438953472 % 256) as u8;
-    b[59] = (n / 536870912 % 256) as u8;
-    b[60] = (n / 2097152 % 256) as u8;
-    b[61] = (n / 8192 % 256) as u8;
-    b[62] = (n / 32 % 256) as u8;
-    b[63] = (n % 32 * 8) as u8;
+    put_word(&mut b, 56, (n / 536870912 % 4294967296) as u32);
+    put_word(&mut b, 60, (n % 536870912 * 8) as u32);
     b
 }

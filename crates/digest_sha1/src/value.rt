@@ -3,6 +3,7 @@ ghost use mathlib.Core.Path.{_≡_};
 ghost use Rattle.digest_sha1.specs.Sha1 as spec;
 use crate::sizes::DIGEST_OCTETS;
 use crate::words::plus;
+use crate::words::put_word;
 
 // The five words of a hash value, and the five working variables of the rounds (FIPS 180-4 6.1.2).
 pub struct Hash {
@@ -43,31 +44,11 @@ pub fn added(h: Hash, s: Hash) -> Hash
 pub fn octets(h: Hash) -> [u8; DIGEST_OCTETS]
     ensures { λ r. ⌜ r ≡ spec.octets h ⌝ }
 {
-    let a = h.a;
-    let b = h.b;
-    let c = h.c;
-    let d = h.d;
-    let e = h.e;
-    [
-        (a / 16777216 % 256) as u8,
-        (a / 65536 % 256) as u8,
-        (a / 256 % 256) as u8,
-        (a % 256) as u8,
-        (b / 16777216 % 256) as u8,
-        (b / 65536 % 256) as u8,
-        (b / 256 % 256) as u8,
-        (b % 256) as u8,
-        (c / 16777216 % 256) as u8,
-        (c / 65536 % 256) as u8,
-        (c / 256 % 256) as u8,
-        (c % 256) as u8,
-        (d / 16777216 % 256) as u8,
-        (d / 65536 % 256) as u8,
-        (d / 256 % 256) as u8,
-        (d % 256) as u8,
-        (e / 16777216 % 256) as u8,
-        (e / 65536 % 256) as u8,
-        (e / 256 % 256) as u8,
-        (e % 256) as u8,
-    ]
+    let mut r = [0u8; DIGEST_OCTETS];
+    put_word(&mut r, 0, h.a);
+    put_word(&mut r, 4, h.b);
+    put_word(&mut r, 8, h.c);
+    put_word(&mut r, 12, h.d);
+    put_word(&mut r, 16, h.e);
+    r
 }

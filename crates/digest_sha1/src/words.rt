@@ -2,6 +2,7 @@
 ghost use mathlib.Core.Path.{_≡_};
 ghost use Prim.Native.Nat.{_+_, _≤_};
 ghost use lib.ListN.{length};
+ghost use lib.Seq.{sets};
 ghost use Rattle.digest_sha1.specs.Words as words;
 ghost use Rattle.digest_sha1.specs.Words.{_⊞_};
 ghost use Rattle.digest_sha1.specs.Sha1 as spec;
@@ -68,4 +69,15 @@ pub fn word(m: &[u8], at: usize) -> u32
     ensures { λ r. ⌜ r ≡ spec.wordAt (now (m .entry)) at ⌝ }
 {
     be32(m[at], m[at + 1], m[at + 2], m[at + 3])
+}
+
+// Stores the four octets of a word, the highest first, from `at` on (3.1).
+pub fn put_word(out: &mut [u8], at: usize, x: u32)
+    requires { ⌜ at + 4 ≤ length (now out) ⌝ }
+    ensures { λ _. ⌜ now (out .exit) ≡ sets (now (out .entry)) at (spec.octets4 x) ⌝ }
+{
+    out[at] = (x / 16777216 % 256) as u8;
+    out[at + 1] = (x / 65536 % 256) as u8;
+    out[at + 2] = (x / 256 % 256) as u8;
+    out[at + 3] = (x % 256) as u8;
 }

@@ -95,10 +95,8 @@ fn put_key_request(out: &mut [u8], f: Fields, digest: &[u8]) -> usize
 fn put_key_reply(out: &mut [u8], f: Fields, digest: &[u8]) -> usize
     ensures { λ r. ⌜ Wrote (now (out .entry)) 4 (namedItems (f .ak) (f .said) ++ (paramsItem (f .older) ∷ paramsItem (f .newer) ∷ attr 11 (now (digest .entry)) ∷ [])) r (now (out .exit)) ⌝ }
 {
-    let older = f.older;
-    let newer = f.newer;
     let a = put_named(out, HEAD_OCTETS, f.ak, f.said);
-    let b = put_pair(out, a, older, newer);
+    let b = put_pair(out, a, f.older, f.newer);
     put_attr(out, b, TYPE_DIGEST, digest)
 }
 
@@ -151,9 +149,7 @@ pub fn put_message(f: Fields, key: &[u8], digest: &[u8], out: &mut [u8]) -> usiz
     ensures { λ r. ⌜ Put (now (out .entry)) 0 (messageOf f (now (key .entry)) (now (digest .entry))) r (now (out .exit)) ⌝ }
 {
     let n = body_len(f, key);
-    let high = (n / 256 % 256) as u8;
-    let low = (n % 256) as u8;
-    let head = [f.code, f.identifier, high, low];
+    let head = [f.code, f.identifier, (n / 256 % 256) as u8, (n % 256) as u8];
     let a = put_octets(out, 0, &head);
     put_body(f, key, digest, out)
 }

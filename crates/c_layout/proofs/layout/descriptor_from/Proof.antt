@@ -21,7 +21,14 @@ be16-of-requires-2 c κs = search needs
 
 returns : tie.Need-returns
 unfolding descriptorFrom
-returns c = cc
+returns c =
+    simp (
+      c .be16-of2 .ensures,
+      c .before .part2 .ensures,
+      c .before .before .octet .ensures,
+      c .before .before .before .be16-of .ensures,
+      c .before .before .before .before .part .ensures,
+    )
 
 pub descriptor-from-spec : {M : Type 1} → statement M
 descriptor-from-spec =

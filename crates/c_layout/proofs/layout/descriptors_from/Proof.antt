@@ -30,7 +30,17 @@ descriptor-from-requires-4 c κs = search needs
 
 returns : tie.Need-returns
 unfolding descriptorsFrom
-returns c = cc
+returns c =
+    simp (
+      c .descriptor-from4 .ensures,
+      c .before .part4 .ensures,
+      c .before .before .descriptor-from3 .ensures,
+      c .before .before .before .part3 .ensures,
+      c .before .before .before .before .descriptor-from2 .ensures,
+      c .before .before .before .before .before .part2 .ensures,
+      c .before .before .before .before .before .before .descriptor-from .ensures,
+      c .before .before .before .before .before .before .before .part .ensures,
+    )
 
 pub descriptors-from-spec : {M : Type 1} → statement M
 descriptors-from-spec =

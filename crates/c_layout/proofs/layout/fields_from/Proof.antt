@@ -54,7 +54,7 @@ cast-t18 c = search needs
 
 returns : tie.Need-returns
 unfolding fieldsFrom
-returns c = rw (
+returns c = simp (
   c .before .before .before .before .before .before .before .before .octet .ensures,
   c .before .before .before .before .before .before .before .octet2 .ensures,
   c .before .before .before .before .before .before .octet3 .ensures,

@@ -15,7 +15,11 @@ octets-requires c κs = search needs
 
 returns : tie.Need-returns
 unfolding keyFrom
-returns c = cc
+returns c =
+    simp (
+      c .octets .ensures,
+      c .before .octet .ensures,
+    )
 
 pub key-from-spec : {M : Type 1} → statement M
 key-from-spec = tie.close (tie.spec octet-requires cast-width octets-requires returns)

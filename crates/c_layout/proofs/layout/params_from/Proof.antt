@@ -27,7 +27,16 @@ be32-of-requires c κs = search needs
 
 returns : tie.Need-returns
 unfolding paramsFrom
-returns c = cc
+returns c =
+    simp (
+      c .be32-of .ensures,
+      c .before .part3 .ensures,
+      c .before .before .octet .ensures,
+      c .before .before .before .key-from2 .ensures,
+      c .before .before .before .before .part2 .ensures,
+      c .before .before .before .before .before .key-from .ensures,
+      c .before .before .before .before .before .before .part .ensures,
+    )
 
 pub params-from-spec : {M : Type 1} → statement M
 params-from-spec =

@@ -6,26 +6,26 @@ use borrow.Author.Needs.{needs}
 use Rattle.c_layout.proofs.layout.put_head.Statement.{statement}
 use Rattle.c_layout.proofs.layout.put_head.Tie as tie
 
-cast-count : tie.Need-cast-count
-cast-count c = search needs
+cast-t5 : tie.Need-cast-t5
+cast-t5 c = search needs
 
-cast-said-high : tie.Need-cast-said-high
-cast-said-high c = search needs
+cast-t8 : tie.Need-cast-t8
+cast-t8 c = search needs
 
-cast-said-low : tie.Need-cast-said-low
-cast-said-low c = search needs
+cast-t10 : tie.Need-cast-t10
+cast-t10 c = search needs
 
-cast-first : tie.Need-cast-first
-cast-first c = search needs
+cast-t13 : tie.Need-cast-t13
+cast-t13 c = search needs
 
-cast-second : tie.Need-cast-second
-cast-second c = search needs
+cast-t16 : tie.Need-cast-t16
+cast-t16 c = search needs
 
-cast-third : tie.Need-cast-third
-cast-third c = search needs
+cast-t19 : tie.Need-cast-t19
+cast-t19 c = search needs
 
-cast-fourth : tie.Need-cast-fourth
-cast-fourth c = search needs
+cast-t21 : tie.Need-cast-t21
+cast-t21 c = search needs
 
 slice-aggregate-put-octets : tie.Need-slice-aggregate-put-octets
 slice-aggregate-put-octets c = search needs
@@ -44,13 +44,13 @@ pub put-head-spec : {M : Type 1} → statement M
 put-head-spec =
     tie.close
     (tie.spec
-    cast-count
-    cast-said-high
-    cast-said-low
-    cast-first
-    cast-second
-    cast-third
-    cast-fourth
+    cast-t5
+    cast-t8
+    cast-t10
+    cast-t13
+    cast-t16
+    cast-t19
+    cast-t21
     slice-aggregate-put-octets
     put-octets-requires
     same-length

@@ -8,8 +8,8 @@ use borrow.Author.Needs.{needs}
 use Rattle.c_layout.proofs.layout.put_key.Statement.{statement}
 use Rattle.c_layout.proofs.layout.put_key.Tie as tie
 
-cast-width : tie.Need-cast-width
-cast-width c = search needs
+cast-t8 : tie.Need-cast-t8
+cast-t8 c = search needs
 
 slice-aggregate-put-octets : tie.Need-slice-aggregate-put-octets
 slice-aggregate-put-octets c = search needs
@@ -29,13 +29,13 @@ same-length c = search needs
 returns : tie.Need-returns
 unfolding keyLaid
 returns c = let l : length (c .before .before .before .before .before .before .before .before .before .before .before .before .before .args .k .octets) ≡ 16 = search needs in
-    (then-put (c .before .before .before .before .before .before .before .put-octets .ensures) (c .before .before .put-octets2 .ensures), omega arith)
+    (then-put (c .before .before .before .before .before .before .before .before .put-octets .ensures) (c .before .before .put-octets2 .ensures), omega arith)
 
 pub put-key-spec : {M : Type 1} → statement M
 put-key-spec =
     tie.close
     (tie.spec
-    cast-width
+    cast-t8
     slice-aggregate-put-octets
     put-octets-requires
     slice-aggregate-put-octets-2

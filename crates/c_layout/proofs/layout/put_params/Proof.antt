@@ -7,17 +7,17 @@ use borrow.Author.Needs.{needs}
 use Rattle.c_layout.proofs.layout.put_params.Statement.{statement}
 use Rattle.c_layout.proofs.layout.put_params.Tie as tie
 
-cast-first : tie.Need-cast-first
-cast-first c = search needs
+cast-t9 : tie.Need-cast-t9
+cast-t9 c = search needs
 
-cast-second : tie.Need-cast-second
-cast-second c = search needs
+cast-t12 : tie.Need-cast-t12
+cast-t12 c = search needs
 
-cast-third : tie.Need-cast-third
-cast-third c = search needs
+cast-t15 : tie.Need-cast-t15
+cast-t15 c = search needs
 
-cast-fourth : tie.Need-cast-fourth
-cast-fourth c = search needs
+cast-t17 : tie.Need-cast-t17
+cast-t17 c = search needs
 
 slice-aggregate-put-octets : tie.Need-slice-aggregate-put-octets
 slice-aggregate-put-octets c = search needs
@@ -42,10 +42,10 @@ pub put-params-spec : {M : Type 1} → statement M
 put-params-spec =
     tie.close
     (tie.spec
-    cast-first
-    cast-second
-    cast-third
-    cast-fourth
+    cast-t9
+    cast-t12
+    cast-t15
+    cast-t17
     slice-aggregate-put-octets
     put-octets-requires
     put-key-requires

@@ -6,17 +6,17 @@ use borrow.Author.Needs.{needs}
 use Rattle.c_layout.proofs.layout.put_place.Statement.{statement}
 use Rattle.c_layout.proofs.layout.put_place.Tie as tie
 
-cast-start-high : tie.Need-cast-start-high
-cast-start-high c = search needs
+cast-t7 : tie.Need-cast-t7
+cast-t7 c = search needs
 
-cast-start-low : tie.Need-cast-start-low
-cast-start-low c = search needs
+cast-t9 : tie.Need-cast-t9
+cast-t9 c = search needs
 
-cast-len-high : tie.Need-cast-len-high
-cast-len-high c = search needs
+cast-t12 : tie.Need-cast-t12
+cast-t12 c = search needs
 
-cast-len-low : tie.Need-cast-len-low
-cast-len-low c = search needs
+cast-t14 : tie.Need-cast-t14
+cast-t14 c = search needs
 
 slice-aggregate-put-octets : tie.Need-slice-aggregate-put-octets
 slice-aggregate-put-octets c = search needs
@@ -35,10 +35,10 @@ pub put-place-spec : {M : Type 1} → statement M
 put-place-spec =
     tie.close
     (tie.spec
-    cast-start-high
-    cast-start-low
-    cast-len-high
-    cast-len-low
+    cast-t7
+    cast-t9
+    cast-t12
+    cast-t14
     slice-aggregate-put-octets
     put-octets-requires
     same-length

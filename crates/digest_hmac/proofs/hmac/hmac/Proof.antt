@@ -31,7 +31,8 @@ block-hmac-requires-2 c κs = search needs
 returns-2 : tie.Need-returns-2
 unfolding hmac usedKey
 returns-2 c =
-    rw (lt-leb (length (now (c .before .before .before .before .before .before .before .args .key))) 64 (omega arith)) (cc)
+    rw (lt-leb (length (now (c .before .before .before .before .before .before .before .args .key))) 64 (omega arith))
+    (simp (c .before .before .octets .ensures, c .before .before .before .sha1 .ensures) at (c .block-hmac2 .ensures))
 
 pub hmac-spec : {M : Type 1} → statement M
 hmac-spec =

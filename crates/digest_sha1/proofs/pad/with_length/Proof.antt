@@ -5,81 +5,43 @@ use borrow.Author.Needs.{needs}
 use Rattle.digest_sha1.proofs.pad.with_length.Statement.{statement}
 use Rattle.digest_sha1.proofs.pad.with_length.Tie as tie
 
-cast-b : tie.Need-cast-b
-cast-b c = search needs
+slice-aggregate-put-word : tie.Need-slice-aggregate-put-word
+slice-aggregate-put-word c = search needs
 
-array-write-b : tie.Need-array-write-b
-array-write-b c = search needs
+cast-put-word : tie.Need-cast-put-word
+cast-put-word c = search needs
 
-cast-b-2 : tie.Need-cast-b-2
-cast-b-2 c = search needs
+put-word-requires : tie.Need-put-word-requires
+put-word-requires c κs = search needs
 
-array-write-b-2 : tie.Need-array-write-b-2
-array-write-b-2 c = search needs
+slice-aggregate-put-word-2 : tie.Need-slice-aggregate-put-word-2
+slice-aggregate-put-word-2 c = search needs
 
-cast-b-3 : tie.Need-cast-b-3
-cast-b-3 c = search needs
+mul-put-word : tie.Need-mul-put-word
+mul-put-word c = search needs
 
-array-write-b-3 : tie.Need-array-write-b-3
-array-write-b-3 c = search needs
+cast-put-word-2 : tie.Need-cast-put-word-2
+cast-put-word-2 c = search needs
 
-cast-b-4 : tie.Need-cast-b-4
-cast-b-4 c = search needs
-
-array-write-b-4 : tie.Need-array-write-b-4
-array-write-b-4 c = search needs
-
-cast-b-5 : tie.Need-cast-b-5
-cast-b-5 c = search needs
-
-array-write-b-5 : tie.Need-array-write-b-5
-array-write-b-5 c = search needs
-
-cast-b-6 : tie.Need-cast-b-6
-cast-b-6 c = search needs
-
-array-write-b-6 : tie.Need-array-write-b-6
-array-write-b-6 c = search needs
-
-cast-b-7 : tie.Need-cast-b-7
-cast-b-7 c = search needs
-
-array-write-b-7 : tie.Need-array-write-b-7
-array-write-b-7 c = search needs
-
-mul-b : tie.Need-mul-b
-mul-b c = search needs
-
-cast-b-8 : tie.Need-cast-b-8
-cast-b-8 c = search needs
-
-array-write-b-8 : tie.Need-array-write-b-8
-array-write-b-8 c = search needs
+put-word-requires-2 : tie.Need-put-word-requires-2
+put-word-requires-2 c κs = search needs
 
 returns : tie.Need-returns
 returns c =
-    with-octets (c .args .block) (c .args .n) _ _ _ _ _ _ _ _ (omega arith) (omega arith) (omega arith) (omega arith)
-    (omega arith) (omega arith) (omega arith) (omega arith) (omega arith)
+    let start = c .before .before .before .before .before .before in
+    rw (c .before .put-word2 .ensures, c .before .before .before .before .put-word .ensures)
+    (with-octets (start .args .block) (start .args .n) _ _ _ _ _ _ _ _ (omega arith) (omega arith) (omega arith) (omega arith)
+    (omega arith) (omega arith) (omega arith) (omega arith) (omega arith))
 
 pub with-length-spec : {M : Type 1} → statement M
 with-length-spec =
     tie.close
     (tie.spec
-    cast-b
-    array-write-b
-    cast-b-2
-    array-write-b-2
-    cast-b-3
-    array-write-b-3
-    cast-b-4
-    array-write-b-4
-    cast-b-5
-    array-write-b-5
-    cast-b-6
-    array-write-b-6
-    cast-b-7
-    array-write-b-7
-    mul-b
-    cast-b-8
-    array-write-b-8
+    slice-aggregate-put-word
+    cast-put-word
+    put-word-requires
+    slice-aggregate-put-word-2
+    mul-put-word
+    cast-put-word-2
+    put-word-requires-2
     returns)

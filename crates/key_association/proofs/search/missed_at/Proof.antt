@@ -7,7 +7,7 @@ no-key-requires : tie.Need-no-key-requires
 no-key-requires c κs = search needs
 
 returns : tie.Need-returns
-returns c = cc
+returns c = simp (c .no-key .ensures)
 
 pub missed-at-spec : {M : Type 1} → statement M
 missed-at-spec = tie.close (tie.spec no-key-requires returns)

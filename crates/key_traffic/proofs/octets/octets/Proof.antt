@@ -36,7 +36,8 @@ loop-again : tie.Need-loop-again Inv-loop μ-loop
 loop-again c = let i = c .before .before .loop .i in
     let a = c .before .before .before .before .args in (
       omega arith,
-      cc (copied-more (octetsOf (a .m .now) (a .at) (a .w)) 16 i (octets-length (a .m .now) (a .at) (a .w)) (omega arith)),
+      rw (c .before .before .loop .inv .1, c .octet .ensures)
+          (copied-more (octetsOf (a .m .now) (a .at) (a .w)) 16 i (octets-length (a .m .now) (a .at) (a .w)) (omega arith)),
     )
 
 returns : tie.Need-returns Inv-loop μ-loop

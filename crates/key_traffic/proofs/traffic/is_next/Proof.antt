@@ -12,7 +12,7 @@ same-tek-requires c κs = search needs
 
 returns : tie.Need-returns
 unfolding follows
-returns c = cc
+returns c = simp (c .same-tek .ensures, c .before .tek-after .ensures)
 
 pub is-next-spec : {M : Type 1} → statement M
 is-next-spec = tie.close (tie.spec tek-after-requires same-tek-requires returns)

@@ -15,7 +15,7 @@ zero-past-requires-2 c κs = search needs
 
 returns : tie.Need-returns
 unfolding keyFits
-returns c = cc
+returns c = simp (c .zero-past2 .ensures, c .before .zero-past .ensures, c .before .before .tek-in-range .ensures)
 
 pub key-fits-spec : {M : Type 1} → statement M
 key-fits-spec =

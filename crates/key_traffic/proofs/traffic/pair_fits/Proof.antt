@@ -18,7 +18,14 @@ is-within-requires c κs = search needs
 
 returns : tie.Need-returns
 unfolding pairFits
-returns c = cc
+returns c =
+    let e = c .before .before .before in
+    simp (
+      c .is-within .ensures,
+      e .is-next .ensures,
+      e .before .key-fits2 .ensures,
+      e .before .before .key-fits .ensures,
+    )
 
 pub pair-fits-spec : {M : Type 1} → statement M
 pair-fits-spec =

@@ -13,11 +13,11 @@ use Rattle.message_writer.proofs.message.put_message.Tie as tie
 body-len-requires : tie.Need-body-len-requires
 body-len-requires c κs = search needs
 
-cast-high : tie.Need-cast-high
-cast-high c = search needs
+cast-t10 : tie.Need-cast-t10
+cast-t10 c = search needs
 
-cast-low : tie.Need-cast-low
-cast-low c = search needs
+cast-t12 : tie.Need-cast-t12
+cast-t12 c = search needs
 
 slice-aggregate-put-octets : tie.Need-slice-aggregate-put-octets
 slice-aggregate-put-octets c = search needs
@@ -44,8 +44,8 @@ put-message-spec =
     tie.close
     (tie.spec
     body-len-requires
-    cast-high
-    cast-low
+    cast-t10
+    cast-t12
     slice-aggregate-put-octets
     put-octets-requires
     put-body-requires

@@ -9,7 +9,7 @@ life-fits-requires c κs = search needs
 
 returns : tie.Need-returns
 unfolding askedFits
-returns c = cc
+returns c = simp (c .before .before .life-fits .ensures)
 
 pub asked-fits-spec : {M : Type 1} → statement M
 asked-fits-spec = tie.close (tie.spec life-fits-requires returns)

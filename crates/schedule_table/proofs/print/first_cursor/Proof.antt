@@ -23,7 +23,7 @@ div-t11 c =
 
 returns : tie.Need-returns
 unfolding cursorOf
-returns c = cc
+returns c = simp (c .before .listed .ensures)
 
 pub first-cursor-spec : {M : Type 1} → statement M
 first-cursor-spec =

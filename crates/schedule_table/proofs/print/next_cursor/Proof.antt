@@ -23,7 +23,7 @@ add-t9 c = search needs
 
 returns : tie.Need-returns
 unfolding nextOf
-returns c = cc
+returns c = simp (c .before .before .rolled .ensures)
 
 pub next-cursor-spec : {M : Type 1} → statement M
 next-cursor-spec =
