@@ -1,6 +1,7 @@
 -- The row on the Identifier over the clock call holds, by computation.
 use mathlib.Core.Path.{refl}
 use mathlib.Core.List.{[], _∷_}
+use Prim.Native.Nat.{ℕ}
 use Rattle.key_traffic.specs.Octets.{padded, allZero, zeroPast}
 use Rattle.questions.specs.Settings.{lifeFits, tekTimesFit, akTimesFit, waitFits, waitsFit, settingsFit}
 use Rattle.key_traffic.specs.Suites.{widthOf}
@@ -25,16 +26,16 @@ use Rattle.digest_sha1.specs.Words.{f, K, quarter}
 use Rattle.digest_sha1.specs.Sha1.{schedule, padding, octets8, zeros, rounds, roundAt, sha1, finish, allBlocks, blocks, block, compress, added}
 use Rattle.digest_hmac.specs.Hmac.{hmac, usedKey, inner, outer, keyBlock}
 use Rattle.message_digest.specs.Digest.{bare, signedOf}
-use Rattle.demand_edges.specs.Numbered.{Asks, asks, waiting255, numbered254, Numbered}
+use Rattle.demand_edges.specs.Numbered.{Asks, asks, waiting, numbered254, Numbered}
 
 -- What the clock call computes with but the octets of messages, under one name
 unfoldable clocking : Unit {0}
 unfolding padded allZero zeroPast lifeFits tekTimesFit akTimesFit waitFits waitsFit settingsFit widthOf keyFits follows pairFits authIdentifier authCounter authTimer informsOf requestsOf authMoved authStepOf counterAfter identifierAfter tekTimer pairAfter tekSends tekMoved tekStepOf isDue nextIn authorizationTransitions tekTransitions authTimerEvent tekTimerEvent authFired slotFired slotsFired clocked authStepped deliverAuth steppedAt deliverReply withMessage clockFits clockOf timerFits authorizationFits keyZero pairHeldFits longestWait tekFits tekZero slotFits saidsOfTeks modemFits requestsOctets outOctets isNone different
 clocking = tt
 
-resend : Asks waiting255 255 (asks 255 8800 ∷ [])
+resend : (identifier : ℕ) → Asks (waiting identifier) 255 (asks identifier 8800 ∷ [])
 unfolding clocking
-resend = record { done = refl; counts = refl; written = refl }
+resend identifier = record { done = refl; counts = refl; written = refl }
 
 four-asked : Asks numbered254 3 (asks 255 8800 ∷ asks 1 8801 ∷ asks 2 8802 ∷ asks 3 8803 ∷ [])
 unfolding clocking

@@ -61,12 +61,12 @@ numbered counter grace used teks =
       refused = 0;
     }
 
--- One SAID, 8,800, whose machine is in Operational, or waits for the answer to 255; and four from 8,800 on
+-- One SAID, 8,800, whose machine is in Operational, or waits for the answer to a request; and four from 8,800 on
 abbrev pub numbered255 : ℕ → ℕ → Modem
 numbered255 grace refresh = numbered 255 grace 1 (machine D 8800 255 refresh ∷ replicate 3 noTek)
 
-abbrev pub waiting255 : Modem
-waiting255 = numbered 255 5000 1 (machine E 8800 255 100 ∷ replicate 3 noTek)
+abbrev pub waiting : ℕ → Modem
+waiting identifier = numbered 255 5000 1 (machine E 8800 identifier 100 ∷ replicate 3 noTek)
 
 abbrev pub numbered254 : Modem
 numbered254 = numbered 254 5000 4 (machine D 8800 251 100 ∷ machine D 8801 252 100 ∷ machine D 8802 253 100 ∷ machine D 8803 254 100 ∷ [])
@@ -116,7 +116,7 @@ pub record Numbered : Type 0 where
   pub request : Puts (numbered255 100 5000) 1 (authorizationRequest 1)
   -- both, one counter for the whole modem
   pub both : Puts (numbered255 100 100) 2 (authorizationRequest 1 ++ keyRequest2)
-  -- a resend keeps its own, and the counter
-  pub resend : Asks waiting255 255 (asks 255 8800 ∷ [])
+  -- a resend keeps its own, whatever that is, and the counter
+  pub resend : (identifier : ℕ) → Asks (waiting identifier) 255 (asks identifier 8800 ∷ [])
   -- 254, then four refreshes in one clock call: 255, 1, 2 and 3
   pub four : Asks numbered254 3 (asks 255 8800 ∷ asks 1 8801 ∷ asks 2 8802 ∷ asks 3 8803 ∷ [])

@@ -33,6 +33,7 @@ use Rattle.modem_receive.specs.Events.{invalidated}
 use Rattle.modem_receive.specs.Receive.{widthsFit, saidKnown, identifierFits, digestHolds as question12, receiveQuestions, received, fieldsIn}
 use Rattle.modem_calls.specs.Messages.{outOctets}
 use Rattle.modem_calls.specs.Calls.{resultOf, receiveAnswer, receiveOf, firstQuestions}
+use Rattle.modem_calls.proofs.ModemRows.{answer-of}
 use Rattle.modem_calls.proofs.PairLaws.{first-found}
 use Rattle.demand_plant.specs.World.{World, fresh, Step, down, stepOf}
 use Rattle.demand_plant.specs.Run.{worldAfter}
@@ -43,10 +44,6 @@ use Rattle.demand_plant.proofs.UnderRun.{Stands, run-stands, fresh-stan
 use Rattle.demand_plant.proofs.Answered.{before-first, first-found-by, waiting-used, invalid-pends, work-reauthorizes, work-rests}
 
 -- ---- a call by its answer
-result-answer : (a : Answer) (m : Modem) (key : List ℕ) (v : Progress) → resultOf a m key v .called .answer ≡ a
-result-answer Done m key v = refl
-result-answer (Refused r) m key v = refl
-
 result-done : (a : Answer) (m : Modem) (key : List ℕ) (v : Progress) → a ≡ Done
     → (resultOf a m key v .called .modem ≡ v .modem) × (resultOf a m key v .written ≡ outOctets key (v .out))
 result-done Done m key v e = (refl, refl)
@@ -108,7 +105,7 @@ module _ (w : World) (v : Stands w) (i : ℕ) (read write octets : List ℕ) (le
 
   accepted : stepOf w (down read write octets lent) .given .number ≡ 0 → receiveAnswer m octets read write lent ≡ Done
   unfolding receiveOf
-  accepted e = number-done (receiveAnswer m octets read write lent) (ap answerNumber (sym (result-answer (receiveAnswer m octets read write lent) m write (received m (fieldsIn octets)))) ∙ e)
+  accepted e = number-done (receiveAnswer m octets read write lent) (ap answerNumber (sym (answer-of (receiveAnswer m octets read write lent) m write (received m (fieldsIn octets)))) ∙ e)
 
   pends : stepOf w (down read write octets lent) .given .number ≡ 0 → Pends w read write octets lent j
   unfolding receiveOf
@@ -127,7 +124,7 @@ module _ (w : World) (v : Stands w) (i : ℕ) (read write octets : List ℕ) (le
   taken-as-answer =
       record {
         solicited = solicited;
-        not-11 = λ e. met-11 m octets read write lent fits-11 (ap answerNumber (sym (result-answer (receiveAnswer m octets read write lent) m write (received m (fieldsIn octets)))) ∙ e);
+        not-11 = λ e. met-11 m octets read write lent fits-11 (ap answerNumber (sym (answer-of (receiveAnswer m octets read write lent) m write (received m (fieldsIn octets)))) ∙ e);
         asks = found .1;
         first = λ k less. before-first (asking identifier) m k less (omega (arith, less, there)) (omega (arith, less, found .0));
         pends = pends;

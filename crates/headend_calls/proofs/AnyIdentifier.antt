@@ -1,5 +1,5 @@
--- A request's Identifier decides nothing at the head-end: with another, 0 too, it is taken or refused as before, and gets the same answer with that
--- Identifier (document 02, M-101: another make of modem may number a request 0).
+-- A request's Identifier decides nothing at the head-end: with another, 0 too, and a digest that holds as before, it is taken or refused as before, and
+-- gets the same answer with that Identifier (document 02, M-101: another make of modem may number a request 0).
 use mathlib.Core.Path.{_≡_, refl, ap}
 use mathlib.Core.Bool.{Bool, true, false, cond, _||_, not}
 use Prim.Native.Nat.{ℕ}

@@ -1,5 +1,5 @@
--- What every event of either machine keeps, and every machine that is placed, the clock and every message that is taken keep: the one way through
--- the modem's work for a property of a Progress.
+-- What every event of either machine keeps, and every machine that is placed, the clock and every message that is taken keep: a way through
+-- the modem's work for any such property of a Progress.
 use mathlib.Core.Bool.{Bool, true, false, _&&_, cond}
 use Prim.Native.Nat.{ℕ, zero, suc}
 use lib.Dec.{eqb, ltb, leb}

@@ -2,7 +2,7 @@
 ghost use mathlib.Core.Path.{_≡_};
 ghost use Rattle.modem_transitions.specs.Identifier.{nextIdentifier};
 
-// The Identifier that no request has, and the first that one has.
+// The Identifier that no new request has, and the first that one has.
 const UNUSED: u8 = 0;
 
 const FIRST: u8 = 1;
