@@ -7,10 +7,10 @@ use curlewreel_outside::frame::{self, Pair};
 use curlewreel_outside::message::{self, Descriptor, End, Fields, Params};
 use std::hint::black_box;
 
-const BATCH: usize = 2_000;
+pub const BATCH: usize = 2_000;
 
 /// The message key of all that is read and written here.
-const MESSAGE_KEY: [u8; KEY] = [3; KEY];
+pub const MESSAGE_KEY: [u8; KEY] = [3; KEY];
 
 fn params(number: u8, life: u32, first: u8) -> Params {
     Params { number, life, tek: (first..first + 8).collect(), vector: (first + 16..first + 24).collect() }

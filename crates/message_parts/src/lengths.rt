@@ -1,4 +1,4 @@
-// How long what is to be written is, before it is written.
+// Lengths worked out before writing: of a whole message for question 2, and of a compound's inside, which stands behind its length.
 ghost use Prim.Native.Nat.{_≤_, min};
 ghost use mathlib.Core.Path.{_≡_};
 ghost use lib.ListN.{length, take};

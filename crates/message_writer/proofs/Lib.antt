@@ -1,2 +1,3 @@
 pub mod ApartLaws
+pub mod WholeLaws
 pub mod WriteLaws

@@ -1,11 +1,11 @@
 -- The call's questions in order, and what each answer leaves in the lent slice.
 use Prim.Native.Nat.{ℕ, _+_, _≤_, _<_}
-use mathlib.Core.Path.{_≡_, refl, sym, ap, _∙_}
+use mathlib.Core.Path.{_≡_, refl, _∙_}
 use mathlib.Core.Bool.{true, false, _&&_}
-use mathlib.Core.List.{List, [], _∷_, _++_}
+use mathlib.Core.List.{List}
 use native.Mathlib.Omega.{arith}
 use lib.Dec.{leb}
-use lib.ListN.{length, length-append}
+use lib.ListN.{length}
 use borrow.Author.Tests.{leb-true, le-leb, lt-leb}
 use Rattle.questions.specs.declared.refusal.Answer.the-variants.{Done, Refused}
 use Rattle.questions.specs.declared.refusal.Refusal.the-variants.{OutOfLimits, WrongLength}
@@ -16,17 +16,12 @@ use Rattle.message_rules.specs.declared.fields.Writing.{Writing}
 use Rattle.message_rules.specs.Attributes.{two}
 use Rattle.message_rules.specs.Messages.{identifierAllowed}
 use Rattle.message_rules.specs.Limits.{headFits, fieldsFit, authKeyFits}
-use Rattle.message_rules.specs.Ranges.{isRequired}
 use Rattle.message_rules.specs.Writing.{message, messageOf, noDigest}
 use Rattle.digest_hmac.specs.Hmac.{hmac}
 use Rattle.digest_hmac.proofs.FillLaws.{length-hmac}
-use Rattle.message_digest.specs.Digest.{messageKeyFits, bare, signedOf, digestFilled}
+use Rattle.message_digest.specs.Digest.{messageKeyFits, bare, signedOf}
 use Rattle.message_digest.specs.Written.{writeQuestions, writtenOf, writeOf}
-use Rattle.message_digest.proofs.DigestLaws.{front, written-is}
-use Rattle.message_digest.proofs.SignedLaws.{stored-signed}
-use Rattle.key_traffic.specs.Put.{Put}
 use Rattle.message_parts.specs.Parts.{Writable, BodyLength}
-use Rattle.key_traffic.proofs.StoreLaws.{put-whole}
 
 fits-head : (f : Fields) → fieldsFit f ≡ true → headFits (f .code) (f .identifier) ≡ true
 unfolding fieldsFit
@@ -47,9 +42,9 @@ module _ (f : Fields) (auth key : List ℕ) where
   unfolding messageOf message two
   whole-length n e = omega (arith, e noDigest refl)
 
-  pub signed-length : (n : ℕ) → BodyLength f auth n → 4 + n ≡ length (signedOf f auth key)
+  pub length-signed : (n : ℕ) → BodyLength f auth n → 4 + n ≡ length (signedOf f auth key)
   unfolding signedOf messageOf message two
-  signed-length n e = omega (arith, e (hmac key (bare f auth)) (length-hmac key (bare f auth)))
+  length-signed n e = omega (arith, e (hmac key (bare f auth)) (length-hmac key (bare f auth)))
 
   -- what the call promises of its answer r, with the lent slice d before and e after
   abbrev pub Answers : List ℕ → Writing → List ℕ → Type 0
@@ -73,23 +68,7 @@ module _ (f : Fields) (auth key : List ℕ) where
       unfolding writeOf writtenOf writeQuestions
       refused-slice r is h = let short = lt-leb (length (signedOf f auth key)) (length d) h in (is ∙ simp (e, a, k, short), simp (e, a, k, short))
 
-      -- the message with zeros was put, and then its digest was stored
-      pub written : {n : ℕ} {mid after : List ℕ} → length (signedOf f auth key) ≤ length d → length (messageOf f auth noDigest) ≤ length d
-          → length (signedOf f auth key) ≡ length (messageOf f auth noDigest)
-          → Put d 0 (messageOf f auth noDigest) n mid → after ≡ digestFilled (f .code) key n mid → Answers d (record { answer = Done; count = n }) after
+      pub written : {n : ℕ} {after : List ℕ} → length (signedOf f auth key) ≤ length d → n ≡ length (signedOf f auth key) → after ≡ overlay d (signedOf f auth key)
+          → Answers d (record { answer = Done; count = n }) after
       unfolding writeOf writtenOf writeQuestions
-      written {n} {mid} {after} h low same p stored =
-          let w = fits-writable f (length auth) e a in
-          let all : n ≡ length (messageOf f auth noDigest) = omega (arith, p .after) in
-          let room = le-leb (length (signedOf f auth key)) (length d) h in
-          let filled′ : after ≡ digestFilled (f .code) key (length (messageOf f auth noDigest)) (overlay d (messageOf f auth noDigest)) =
-          stored ∙ ap (λ (x : ℕ). digestFilled (f .code) key x mid) all ∙ ap (digestFilled (f .code) key (length (messageOf f auth noDigest))) (put-whole p low) in (
-            simp (e, a, k, room) (done-with (all ∙ sym same)),
-            simp (e, a, k, room) (filled′ ∙ stored-signed f auth key d (w .low) (w .high)),
-          )
-
-  -- a message that carries a digest has room for its attribute
-  pub digest-room : 4 ≤ f .code → f .code ≤ 12 → isRequired (f .code) 11 ≡ true → 23 ≤ length (messageOf f auth noDigest)
-  digest-room low high h =
-      let p = front f auth low high h in
-      omega (arith, ap length (written-is f auth low high h noDigest refl), length-append p (11 ∷ 0 ∷ 20 ∷ noDigest))
+      written h all stored = let room = le-leb (length (signedOf f auth key)) (length d) h in (simp (e, a, k, room) (done-with all), simp (e, a, k, room) stored)

@@ -6,11 +6,9 @@ ghost use Rattle.key_traffic.specs.Octets.{overlay};
 ghost use Rattle.message_digest.specs.Written.{writeOf, writtenOf};
 use crate::limits::auth_key_fits;
 use crate::limits::fields_fit;
-use crate::message::put_message;
+use crate::whole::put_message;
 use message_digest::digest::message_key_fits;
-use message_digest::digest::store_digest;
 use message_parts::lengths::body_len;
-use message_rules::codes::DIGEST_OCTETS;
 use message_rules::codes::HEAD_OCTETS;
 use message_rules::fields::Fields;
 use message_rules::fields::Writing;
@@ -41,13 +39,12 @@ pub fn write(f: Fields, auth: &[u8], key: &[u8], out: &mut [u8]) -> Writing
     if !message_key_fits(key) {
         return refused(Refusal::WrongLength);
     }
+    // Worked out ahead for question 2 alone: Length comes from what is counted while writing.
     let whole = HEAD_OCTETS + body_len(f, auth);
     if out.len() < whole {
         return refused(Refusal::WrongLength);
     }
-    let digest = [0u8; DIGEST_OCTETS];
-    let count = put_message(f, auth, &digest, out);
-    store_digest(f.code, key, count, out);
+    let count = put_message(f, auth, key, out);
     Writing {
         answer: Answer::Done,
         count: count,

@@ -1,11 +1,11 @@
 -- `message_parts::put::put_descriptor` meets its contract.
-use mathlib.Core.Path.{sym}
+use mathlib.Core.Path.{refl, sym}
 use native.Mathlib.Omega.{arith}
 use borrow.Author.Tests.{not-true, not-false}
 use borrow.Author.Needs.{needs}
 use Rattle.message_rules.specs.Writing.{descriptorItems}
 use Rattle.message_rules.proofs.PartsWritten.{descriptor-length}
-use Rattle.message_parts.proofs.Stores.{then-items, then-value, wrote-none}
+use Rattle.message_parts.proofs.Stores.{then-items, then-inside, wrote-none}
 use Rattle.message_parts.proofs.put.put_descriptor.Statement.{statement}
 use Rattle.message_parts.proofs.put.put_descriptor.Tie as tie
 
@@ -31,7 +31,12 @@ returns-2 : tie.Need-returns-2
 unfolding descriptorItems
 returns-2 c = (
   rw (not-false (c .before .before .before .before .before .before .before .before .before .before .before .before .before .before .before .before .before .before .args .on) (c .before .before .before .before .before .before .before .before .before .before .before .before .before .before .before .before .if1 .left))
-      (then-value (sym (descriptor-length (c .before .before .before .before .before .before .before .before .before .before .before .before .before .before .before .before .before .before .args .d))) (c .before .before .before .before .before .before .before .before .before .before .before .before .before .before .put-head .ensures .0) (then-items (c .before .before .before .before .before .before .before .before .before .before .put-two .ensures .0) (then-items (c .before .before .before .before .before .before .put-one .ensures .0) (c .before .before .put-two2 .ensures .0)) .put)),
+      (then-inside
+      (sym (descriptor-length (c .before .before .before .before .before .before .before .before .before .before .before .before .before .before .before .before .before .before .args .d)))
+      (c .before .before .before .before .before .before .before .before .before .before .before .before .before .before .put-head .ensures .0)
+      (c .before .before .before .before .before .before .before .before .before .before .before .before .before .before .put-head .ensures .1)
+      (then-items (c .before .before .before .before .before .before .before .before .before .before .put-two .ensures .0) (then-items (c .before .before .before .before .before .before .put-one .ensures .0) (c .before .before .put-two2 .ensures .0)))
+      refl),
   omega arith,
 )
 

@@ -1,7 +1,7 @@
 -- `message_parts::put::put_params` meets its contract.
 use native.Mathlib.Omega.{arith}
 use borrow.Author.Needs.{needs}
-use Rattle.message_parts.proofs.Stores.{then-value}
+use Rattle.message_parts.proofs.Stores.{then-inside}
 use Rattle.message_parts.proofs.put.put_params.Statement.{statement}
 use Rattle.message_parts.proofs.put.put_params.Tie as tie
 
@@ -18,7 +18,15 @@ same-length : tie.Need-same-length
 same-length c = search needs
 
 returns : tie.Need-returns
-returns c = (then-value (c .before .before .before .before .before .before .before .params-len .ensures .0) (c .before .before .before .before .before .before .put-head .ensures .0) (c .before .before .put-inside .ensures .0 .put), omega arith)
+returns c = (
+  then-inside
+      (c .before .before .before .before .before .before .before .params-len .ensures .0)
+      (c .before .before .before .before .before .before .put-head .ensures .0)
+      (c .before .before .before .before .before .before .put-head .ensures .1)
+      (c .before .before .put-inside .ensures .0)
+      (omega arith),
+  omega arith,
+)
 
 pub put-params-spec : {M : Type 1} → statement M
 put-params-spec =

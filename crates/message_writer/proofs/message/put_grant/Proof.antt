@@ -1,4 +1,5 @@
 -- `message_writer::message::put_grant` meets its contract.
+use native.Mathlib.Omega.{arith}
 use borrow.Author.Needs.{needs}
 use Rattle.message_parts.proofs.Stores.{then-items}
 use Rattle.message_writer.proofs.message.put_grant.Statement.{statement}
@@ -17,7 +18,7 @@ same-length : tie.Need-same-length
 same-length c = search needs
 
 returns : tie.Need-returns
-returns c = then-items (c .before .before .before .before .before .before .before .before .before .before .put-four .ensures .0) (then-items (c .before .before .before .before .before .before .put-one .ensures .0) (c .before .before .put-descriptors .ensures .0))
+returns c = (then-items (c .before .before .before .before .before .before .before .before .before .before .put-four .ensures .0) (then-items (c .before .before .before .before .before .before .put-one .ensures .0) (c .before .before .put-descriptors .ensures .0)), omega arith)
 
 pub put-grant-spec : {M : Type 1} → statement M
 put-grant-spec =

@@ -1,18 +1,16 @@
 -- `message_writer::write::write` meets its contract.
 use Prim.Native.Nat.{_<_, _≤_}
-use mathlib.Core.Path.{_≡_, sym, ap, _∙_, refl}
+use mathlib.Core.Path.{_≡_, sym, _∙_}
 use mathlib.Core.Bool.{true}
 use native.Mathlib.Omega.{arith}
 use lib.ListN.{length}
-use lib.Seq.{length-sets}
 use denote.Ref.{now}
 use borrow.Author.Tests.{not-true, not-false}
 use borrow.Author.Needs.{needs}
 use Rattle.message_rules.specs.Limits.{fieldsFit, authKeyFits}
-use Rattle.message_rules.specs.Writing.{messageOf, noDigest}
 use Rattle.message_parts.specs.Parts.{Writable}
 use Rattle.message_digest.specs.Digest.{messageKeyFits, signedOf}
-use Rattle.message_writer.proofs.WriteLaws.{fits-writable, whole-length, signed-length, refused-fields, refused-auth, refused-key, refused-slice, written, digest-room}
+use Rattle.message_writer.proofs.WriteLaws.{fits-writable, whole-length, length-signed, refused-fields, refused-auth, refused-key, refused-slice, written}
 use Rattle.message_writer.proofs.write.write.Statement.{statement}
 use Rattle.message_writer.proofs.write.write.Tie as tie
 
@@ -72,33 +70,23 @@ refused-requires-4 c κs = search needs
 
 returns-4 : tie.Need-returns-4
 returns-4 c = let a = c .before .before .before .before .before .before .before .before .before .before .before .before .args in
-    let h : length (now (a .out)) < length (signedOf (a .f) (now (a .auth)) (now (a .key))) = omega (arith, c .before .if4 .taken, signed-length (a .f) (now (a .auth)) (now (a .key)) (c .before .before .body-len .result) (c .before .before .body-len .ensures .0)) in
+    let h : length (now (a .out)) < length (signedOf (a .f) (now (a .auth)) (now (a .key))) = omega (arith, c .before .if4 .taken, length-signed (a .f) (now (a .auth)) (now (a .key)) (c .before .before .body-len .result) (c .before .before .body-len .ensures .0)) in
     refused-slice (a .f) (now (a .auth)) (now (a .key)) (now (a .out)) (fit (c .before .before .before .before .before .before .before)) (carried (c .before .before .before .before .before)) (keyed (c .before .before .before)) (c .refused4 .result) (c .refused4 .ensures) h
 
-slice-aggregate-put-message : tie.Need-slice-aggregate-put-message
-slice-aggregate-put-message c = search needs
-
 put-message-requires : tie.Need-put-message-requires
-put-message-requires c κs = (writable (c .before .before .before .before .before .before), refl)
-
-store-digest-requires : tie.Need-store-digest-requires
-store-digest-requires c κs =
-    let a = c .before .before .before .before .before .before .before .before .before .before .before .before .before .before .before .before .before .args in
-    let w = writable (c .before .before .before .before .before .before .before .before .before .before) in
-    let n = whole-length (a .f) (now (a .auth)) (now (a .key)) (c .before .before .before .before .before .before .before .body-len .result) (c .before .before .before .before .before .before .before .body-len .ensures .0) in
-    let p = c .before .before .before .put-message .ensures in
-    (λ h. omega (arith, p .after, digest-room (a .f) (now (a .auth)) (now (a .key)) (w .low) (w .high) h), omega (arith, p .after, n, c .before .before .before .before .before .before .if4 .left, ap length (p .stored), length-sets (now (a .out)) 0 (messageOf (a .f) (now (a .auth)) noDigest)))
+put-message-requires c κs =
+    let a = c .before .before .before .before .before .before .before .before .before .before .before .before .args in
+    let n = whole-length (a .f) (now (a .auth)) (now (a .key)) (c .before .before .body-len .result) (c .before .before .body-len .ensures .0) in
+    (writable (c .before .before .before .before .before), omega (arith, n, c .before .if4 .left))
 
 same-length : tie.Need-same-length
 same-length c = search needs
 
 returns-5 : tie.Need-returns-5
-returns-5 c = let a = c .before .before .before .before .before .before .before .before .before .before .before .before .before .before .before .before .before .before .before .before .args in
-    let m = whole-length (a .f) (now (a .auth)) (now (a .key)) (c .before .before .before .before .before .before .before .before .before .before .body-len .result) (c .before .before .before .before .before .before .before .before .before .before .body-len .ensures .0) in
-    let s = signed-length (a .f) (now (a .auth)) (now (a .key)) (c .before .before .before .before .before .before .before .before .before .before .body-len .result) (c .before .before .before .before .before .before .before .before .before .before .body-len .ensures .0) in
-    let low : length (messageOf (a .f) (now (a .auth)) noDigest) ≤ length (now (a .out)) = omega (arith, c .before .before .before .before .before .before .before .before .before .if4 .left, m) in
-    let high : length (signedOf (a .f) (now (a .auth)) (now (a .key))) ≤ length (now (a .out)) = omega (arith, c .before .before .before .before .before .before .before .before .before .if4 .left, s) in
-    written (a .f) (now (a .auth)) (now (a .key)) (now (a .out)) (fit (c .before .before .before .before .before .before .before .before .before .before .before .before .before .before .before)) (carried (c .before .before .before .before .before .before .before .before .before .before .before .before .before)) (keyed (c .before .before .before .before .before .before .before .before .before .before .before)) high low (omega (arith, m, s)) (c .before .before .before .before .before .before .put-message .ensures) (c .before .before .store-digest .ensures)
+returns-5 c = let a = c .before .before .before .before .before .before .before .before .before .before .before .before .before .before .before .args in
+    let s = length-signed (a .f) (now (a .auth)) (now (a .key)) (c .before .before .before .before .before .body-len .result) (c .before .before .before .before .before .body-len .ensures .0) in
+    let room : length (signedOf (a .f) (now (a .auth)) (now (a .key))) ≤ length (now (a .out)) = omega (arith, c .before .before .before .before .if4 .left, s) in
+    written (a .f) (now (a .auth)) (now (a .key)) (now (a .out)) (fit (c .before .before .before .before .before .before .before .before .before .before)) (carried (c .before .before .before .before .before .before .before .before)) (keyed (c .before .before .before .before .before .before)) room (c .before .before .put-message .ensures .0) (c .before .before .put-message .ensures .1)
 
 pub write-spec : {M : Type 1} → statement M
 write-spec =
@@ -117,8 +105,6 @@ write-spec =
     add-whole
     refused-requires-4
     returns-4
-    slice-aggregate-put-message
     put-message-requires
-    store-digest-requires
     same-length
     returns-5)
