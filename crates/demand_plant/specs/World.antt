@@ -1,6 +1,6 @@
 -- The two ends, the steps, and what each step gives (document 01, "The steps of demand 3"). Every step is a call of an end, with the
 -- definition that the call's contract cites, and with any arguments.
-use mathlib.Core.Bool.{Bool, true, false, cond, _&&_}
+use mathlib.Core.Bool.{Bool, true, false, _&&_}
 use mathlib.Core.List.{List, [], _∷_}
 use Prim.Native.Nat.{ℕ}
 use lib.Dec.{leb, eqb}
@@ -8,7 +8,7 @@ use Rattle.key_traffic.specs.declared.numbers.TekNumber.{TekNumber}
 use Rattle.questions.specs.declared.refusal.Answer.{Answer}
 use Rattle.questions.specs.declared.refusal.Answer.the-variants.{Done, Refused}
 use Rattle.questions.specs.declared.settings.Settings.{Settings}
-use Rattle.questions.specs.Refusal.{answerNumber, isDone}
+use Rattle.questions.specs.Refusal.{answerNumber, isDone, earliest}
 use Rattle.key_traffic.specs.Sealing.{KeyOut, Sealed}
 use Rattle.key_association.specs.declared.listing.Listing.{Listing}
 use Rattle.key_association.specs.declared.record.Assoc.{Assoc}
@@ -124,10 +124,6 @@ clockedBy true w t m write lent =
       modem = Mdm.clockOf (w .modem) t write lent .called .modem;
     }
 clockedBy false w t m write lent = w
-
--- Of the two ends' numbers that of the earlier question; 0 is no refusal
-abbrev pub earliest : ℕ → ℕ → ℕ
-earliest a b = cond (eqb a 0) b (cond (eqb b 0) a (cond (leb a b) a b))
 
 abbrev pub clockAnswers : World → ℕ → List ℕ → List ℕ → ℕ → Bool
 clockAnswers w t m write lent =

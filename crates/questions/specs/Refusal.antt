@@ -1,6 +1,7 @@
 -- Document 01's number of each refusal and of each answer ("The questions, in order").
-use mathlib.Core.Bool.{Bool, true, false}
+use mathlib.Core.Bool.{Bool, true, false, cond}
 use Prim.Native.Nat.{ℕ}
+use lib.Dec.{leb, eqb}
 use Rattle.questions.specs.declared.refusal.Refusal.{Refusal}
 use Rattle.questions.specs.declared.refusal.Refusal.the-variants.{OutOfLimits, WrongLength, ClockOutOfOrder, NoFreePlace, NotNew, CutMessage, CodeNotReceived, BadAttribute, WrongAttributes, UnknownSaid, WrongIdentifier, DigestFails, NoKeyForFrame, NoKeyToSeal}
 use Rattle.questions.specs.declared.refusal.Answer.{Answer}
@@ -30,3 +31,7 @@ answerNumber (Refused r) = numberOf r
 abbrev pub isDone : Answer → Bool
 isDone Done = true
 isDone (Refused r) = false
+
+-- Of the two ends' numbers that of the earlier question; 0 is no refusal
+abbrev pub earliest : ℕ → ℕ → ℕ
+earliest a b = cond (eqb a 0) b (cond (eqb b 0) a (cond (leb a b) a b))

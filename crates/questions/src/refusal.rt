@@ -3,7 +3,7 @@ ghost use mathlib.Core.Path.{_≡_};
 ghost use mathlib.Core.Bool.{cond};
 ghost use Rattle.questions.specs.declared.refusal.Answer.the-variants.{Refused};
 ghost use Rattle.questions.specs.Questions.{answerThen};
-ghost use Rattle.questions.specs.Refusal.{numberOf, answerNumber, isDone};
+ghost use Rattle.questions.specs.Refusal.{numberOf, answerNumber, isDone, earliest};
 
 // The 14 refusals, in the order of document 01's questions.
 pub enum Refusal {
@@ -100,4 +100,17 @@ pub fn and_then(a: Answer, later: Answer) -> Answer
         Answer::Done => later,
         Answer::Refused(_) => a,
     }
+}
+
+// The number of a clock call from those of both ends: that of the earlier question, 0 being none.
+pub fn earlier_number(a: u8, b: u8) -> u8
+    ensures { λ r. ⌜ r ≡ earliest a b ⌝ }
+{
+    if a == DONE {
+        return b;
+    }
+    if b == DONE {
+        return a;
+    }
+    if a <= b { a } else { b }
 }

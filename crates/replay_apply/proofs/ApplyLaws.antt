@@ -10,7 +10,7 @@ use Rattle.questions.specs.declared.refusal.Answer.the-variants.{Done, Refused}
 use Rattle.key_traffic.specs.declared.sealing.SealedCall.{SealedCall}
 use Rattle.key_traffic.specs.Octets.{overlay}
 use Rattle.questions.specs.Questions.{firstNo}
-use Rattle.questions.specs.Refusal.{answerNumber, isDone}
+use Rattle.questions.specs.Refusal.{answerNumber, isDone, earliest}
 use Rattle.questions.proofs.AnswerLaws.{is-done}
 use Rattle.key_traffic.specs.Sealing.{sealCalled}
 use Rattle.key_association.specs.declared.listing.Listing.{Listing}
@@ -41,7 +41,7 @@ use Rattle.modem_frames.specs.Frames as ModemFrames
 use Rattle.modem_frames.specs.FrameCalled.{openCalled as modemOpenCalled}
 use Rattle.replay_read.specs.declared.calls.Kind.{Kind}
 use Rattle.replay_read.specs.declared.calls.Call.{Call}
-use Rattle.demand_plant.specs.World.{list, clock, established, reauth, up, down, sealDown, sealUp, openUp, openDown, clockedBy, earliest}
+use Rattle.demand_plant.specs.World.{list, clock, established, reauth, up, down, sealDown, sealUp, openUp, openDown, clockedBy}
 use Rattle.demand_plant.specs.Demand3.{clockWrote}
 use Rattle.replay_apply.specs.declared.ends.Ends.{Ends}
 use Rattle.replay_apply.specs.declared.ends.Applied.{Applied}

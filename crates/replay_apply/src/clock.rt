@@ -6,12 +6,12 @@ ghost use Rattle.replay_apply.specs.Steps.{worldOf};
 ghost use Rattle.replay_apply.specs.Applied.{AppliesSent};
 use crate::ends::Applied;
 use crate::ends::Ends;
-use crate::ends::earlier_number;
 use crate::ends::refused;
 use crate::held::clock_held;
 use crate::modem_side::clock_modem;
 use modem_calls::calls::clock_answer;
 use questions::refusal::answer_number;
+use questions::refusal::earlier_number;
 use questions::refusal::is_done;
 use replay_read::calls::Call;
 

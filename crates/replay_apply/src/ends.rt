@@ -1,13 +1,11 @@
 // Both ends and the records by value, and what applying a call hands back.
 ghost use mathlib.Core.Path.{_≡_};
-ghost use Rattle.demand_plant.specs.World.{earliest};
 ghost use Rattle.replay_apply.specs.Applied.{quietOf, refusedOf};
 use headend_state::state::HeadEnd;
 use key_association::record::Assoc;
 use key_traffic::numbers::TekNumber;
 use modem_steps::state::Modem;
 use questions::limits::RECORDS_MAX;
-use questions::refusal::DONE;
 
 // The head-end, its records, and the modem.
 pub struct Ends {
@@ -61,17 +59,4 @@ pub fn refused(number: u8, e: Ends) -> Applied
         count: 0,
         ends: e,
     }
-}
-
-// The number of a clock call from those of both ends: that of the earlier question, 0 being none.
-pub fn earlier_number(a: u8, b: u8) -> u8
-    ensures { λ r. ⌜ r ≡ earliest a b ⌝ }
-{
-    if a == DONE {
-        return b;
-    }
-    if b == DONE {
-        return a;
-    }
-    if a <= b { a } else { b }
 }

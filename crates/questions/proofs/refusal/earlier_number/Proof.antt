@@ -1,7 +1,7 @@
--- `replay_apply::ends::earlier_number` meets its contract.
+-- `questions::refusal::earlier_number` meets its contract.
 use borrow.Author.Tests.{eq-eqb, ne-eqb, le-leb, lt-leb}
-use Rattle.replay_apply.proofs.ends.earlier_number.Statement.{statement}
-use Rattle.replay_apply.proofs.ends.earlier_number.Tie as tie
+use Rattle.questions.proofs.refusal.earlier_number.Statement.{statement}
+use Rattle.questions.proofs.refusal.earlier_number.Tie as tie
 
 returns : tie.Need-returns
 returns c = simp (eq-eqb (c .before .args .a) 0 (c .if1 .taken))
