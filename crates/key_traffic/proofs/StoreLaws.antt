@@ -40,9 +40,6 @@ then-put {d} {at} {vs} {a} {e} {ws} {b} {f} p q = record {
 pub put-as : {d : List ℕ} {at : ℕ} {vs ws : List ℕ} {n : ℕ} {e : List ℕ} → vs ≡ ws → Put d at vs n e → Put d at ws n e
 put-as {d} {at} {vs} {ws} {n} {e} q p = subst (λ (l : List ℕ). Put d at l n e) q p
 
-pub put-from : {d : List ℕ} {at to : ℕ} {vs : List ℕ} {n : ℕ} {e : List ℕ} → at ≡ to → Put d to vs n e → Put d at vs n e
-put-from {d} {at} {to} {vs} {n} {e} q p = subst (λ (k : ℕ). Put d k vs n e) (sym q) p
-
 -- nothing written
 pub put-none : (d : List ℕ) (at : ℕ) → Put d at [] at d
 put-none d at = record { after = omega arith; stored = refl }

@@ -5,7 +5,8 @@ use mathlib.Core.List.{List, [], _∷_, _++_, append-nil}
 use native.Mathlib.Omega.{arith}
 use lib.ListN.{length, set, length-append}
 use lib.Seq.{sets, set-comm}
-use Rattle.key_traffic.proofs.StoreLaws.{sets-append}
+use Rattle.key_traffic.specs.Put.{Put}
+use Rattle.key_traffic.proofs.StoreLaws.{sets-append, then-put}
 use Rattle.message_rules.specs.Attributes.{Item, attr, attrOctets, octets, two}
 use Rattle.message_rules.proofs.AttributesLaws.{length-two}
 use Rattle.message_rules.proofs.HoldsLaws.{octets-append}
@@ -15,7 +16,10 @@ use Rattle.message_parts.proofs.PartLaws.{length-items, length-none}
 
 -- a run of stores that begins where another ended
 run-on : (d v w : List ℕ) (i : ℕ) {e f : List ℕ} {j : ℕ} → j ≡ i + length v → e ≡ sets d i v → f ≡ sets e j w → f ≡ sets d i (v ++ w)
-run-on d v w i {e} at p q = q ∙ ap (λ (k : ℕ). sets e k w) at ∙ ap (λ (l : List ℕ). sets l (i + length v) w) p ∙ sym (sets-append v w d i)
+run-on d v w i {e} {f} {j} at p q =
+    let first : Put d i v j e = record { after = at; stored = p } in
+    let second : Put e j w (j + length w) f = record { after = refl; stored = q } in
+    then-put first second .stored
 
 -- what was put, whatever was put before it
 pub wrote : {d : List ℕ} {len : ℕ} {l : List Item} {next : ℕ} {e : List ℕ} → next ≡ len + length (octets l) → e ≡ sets d (4 + len) (octets l) → Wrote d len l next e

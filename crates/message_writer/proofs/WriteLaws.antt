@@ -68,6 +68,7 @@ module _ (f : Fields) (auth key : List ℕ) where
       unfolding writeOf writtenOf writeQuestions
       refused-slice r is h = let short = lt-leb (length (signedOf f auth key)) (length d) h in (is ∙ simp (e, a, k, short), simp (e, a, k, short))
 
+      -- the message was put, with its digest
       pub written : {n : ℕ} {after : List ℕ} → length (signedOf f auth key) ≤ length d → n ≡ length (signedOf f auth key) → after ≡ overlay d (signedOf f auth key)
           → Answers d (record { answer = Done; count = n }) after
       unfolding writeOf writtenOf writeQuestions
