@@ -10,7 +10,9 @@
  *   fields (with `end` CURLEWREEL_MODEM, the end that receives the code, at both places), and curlewreel_write writes them again with other
  *   octets for the TEKs, and with the digest over those. On arrival look first whether the digest holds over the message as it came
  *   (CURLEWREEL_FIELD_DIGEST_HOLDS). Where it does, unwrap and write again under the same key; where it does not, hand the message on as it came, and
- *   it is refused with 12. RSA, certificates and the frame cipher are yours too.
+ *   it is refused with 12. RSA and certificates are yours too.
+ * - The frame cipher. `seal` and `open` give TEK and vector to a cipher block of yours; `seal_frame` and `open_frame` seal and open the octets
+ *   themselves, for suite 768 alone ("Frames sealed here" below). The two kinds go together: one end may have a block, and the other none.
  * - Message keys. Digests are worked out and checked here, but the keys are yours to derive and to keep: two of 20 octets for each authorization
  *   key (AK), SHA-1 over 64 octets 0x5C (for messages that go up) or 0x3A (for those that go down) and the AUTH-Key behind them. (Document 000, 11.4
  *   and I.4.3; the text there says 63 times, and 64 gives the keys that it prints. examples/message_keys.h does it.) "Which message key goes where"
@@ -63,15 +65,17 @@ extern "C" {
  *   call                         read_key                                    write_key
  *   curlewreel_headend_receive   the AK that the message names, up           the same AK, down
  *   curlewreel_headend_open      none                                        the modem's newest AK, down: number `keys.next` - 1 mod 16 of its entry
+ *   .._headend_open_frame        none                                        the same
  *   curlewreel_modem_receive     the AK that the message names, down         the modem's AK, up: number `authorization.ak_number`; on an
  *                                                                            Authorization Reply that of the Reply's own AK, since the Key Requests
  *                                                                            that it leads to name that one
  *   curlewreel_modem_clock       none                                        the modem's AK, up
  *   curlewreel_modem_open        none                                        the modem's AK, up
+ *   curlewreel_modem_open_frame  none                                        the modem's AK, up
  *   curlewreel_read              the AK that the message names, its own way  none
  *   curlewreel_write             none                                        the AK of the fields, its own way
  *
- * `established` and `reauth` write messages without a digest, `list`, `seal` and the head-end's `clock` write none: they take no key. Which AK a
+ * `established` and `reauth` write messages without a digest, `list`, `seal`, `seal_frame` and the head-end's `clock` write none: they take no key. Which AK a
  * message names curlewreel_read tells before the call, lent any 20 octets: CURLEWREEL_FIELD_AK_NUMBER. It never answers 12. Read with the right key, it tells
  * too whether the digest holds.
  * Where you have no key of the AK that a message names: at the head-end any 20 octets do for `read_key`, since error 4 comes before error 5 (an AK that
@@ -86,10 +90,11 @@ enum {
     CURLEWREEL_OCTETS_AUTH_KEY = 256, /* the longest AUTH-Key; the shortest has 1 */
     CURLEWREEL_OCTETS_MESSAGE_KEY = 20, /* `read_key` and `write_key`, exactly */
     CURLEWREEL_OCTETS_ANSWER = 342,   /* `out` of the head-end's receive, at least */
-    CURLEWREEL_OCTETS_INVALID = 40,   /* `invalid` of the head-end's open, at least */
+    CURLEWREEL_OCTETS_INVALID = 40,   /* `invalid` of the head-end's open and open_frame, at least */
     CURLEWREEL_OCTETS_SENT = 216,     /* `out` of each of the modem's calls, at least: six messages */
     CURLEWREEL_OCTETS_TEK = 16,       /* `tek`, at least; as many in a key, zeros past the width */
     CURLEWREEL_OCTETS_VECTOR = 16,    /* `vector`, the same */
+    CURLEWREEL_OCTETS_FRAME = 12,     /* `frame`, at least: the two addresses, which stay clear; there is no upper limit */
     CURLEWREEL_OCTETS_KEYS = 64,      /* `keys` of the frame decision, exactly */
     CURLEWREEL_OCTETS_MATERIAL = 64   /* `material` for each SAID, exactly: TEK and vector of two keys, 16 octets each */
 };
@@ -158,7 +163,7 @@ enum { CURLEWREEL_UP = 0, CURLEWREEL_DOWN = 1 };
 /* Whether a message's digest holds, as a reading gives it. */
 enum { CURLEWREEL_DIGEST_NO = 0, CURLEWREEL_DIGEST_YES = 1 };
 
-/* Document 01's numbers of refusals. 0 is done. */
+/* Numbers of refusals: document 01's, and 15 of document 02. 0 is done. */
 enum {
     CURLEWREEL_DONE = 0,
     CURLEWREEL_OUT_OF_LIMITS = 1,
@@ -174,7 +179,8 @@ enum {
     CURLEWREEL_WRONG_IDENTIFIER = 11,
     CURLEWREEL_DIGEST_FAILS = 12,
     CURLEWREEL_NO_KEY_FOR_FRAME = 13,
-    CURLEWREEL_NO_KEY_TO_SEAL = 14
+    CURLEWREEL_NO_KEY_TO_SEAL = 14,
+    CURLEWREEL_SHORT_FRAME = 15
 };
 
 /* The frame decision: which of a held pair's keys opens a frame numbered `number` at the second `clock`. A key opens frames of
@@ -359,7 +365,8 @@ curlewreel_modem_call curlewreel_modem_receive(curlewreel_modem modem, const uin
                                                size_t read_key_len, const uint8_t *write_key, size_t write_key_len, uint8_t *out,
                                                size_t out_len);
 
-/* What sealing answers: the number, the key's number, and how many octets of TEK and of vector were written (8 or 16). */
+/* What sealing answers: the number, the key's number, and how many octets were written: of TEK and of vector each (8 or 16), or by a `_frame`
+ * call of the frame (its length). */
 typedef struct {
     uint8_t number;
     uint8_t key;
@@ -371,7 +378,8 @@ typedef struct {
 curlewreel_sealed curlewreel_modem_seal(curlewreel_modem modem, uint16_t said, uint8_t *tek, size_t tek_len, uint8_t *vector,
                                         size_t vector_len);
 
-/* What opening answers: the number, how many octets of TEK and of vector were written, how many of messages, and the modem after it. */
+/* What opening answers: the number, how many octets were written of TEK and of vector each, or by open_frame of the frame, how many of messages,
+ * and the modem after it. */
 typedef struct {
     uint8_t number;
     size_t width;
@@ -386,6 +394,28 @@ typedef struct {
 curlewreel_modem_opening curlewreel_modem_open(curlewreel_modem modem, uint8_t direction, uint64_t address, uint16_t said, uint8_t number,
                                                const uint8_t *write_key, size_t write_key_len, uint8_t *tek, size_t tek_len, uint8_t *vector,
                                                size_t vector_len, uint8_t *out, size_t out_len);
+
+/* Frames sealed here. These calls seal and open the octets themselves, with AES of 128 bits in CBC mode as DOCSIS has it (document 000, 11.1 and
+ * I.7): the first 12 octets of a frame, its two addresses, stay clear; whole blocks of 16 are chained from the vector on; what is left, 1 to 15
+ * octets, is added to the left-most octets of the encrypted last ciphertext block, or of the encrypted vector where there is no whole block. A frame
+ * of exactly 12 octets meets the same questions, and is then carried as it came. A frame has no upper limit.
+ * They write as many octets as the frame has at the front of `sealed` or `opened`; its other octets stay as they were. Input and output do not
+ * overlap: a frame is not sealed in its own place. A refusal writes nothing to `sealed` or `opened`, and gives the width 0.
+ * Nothing tells a frame that was changed on its way from one that was not: it is opened to other octets. Suite 768 has no check of its own.
+ * AES looks things up in tables by octets that depend on the key, so who shares a processor's cache with a call may learn about the key from how
+ * long calls take: on shared hardware use a cipher block (docs/DECISIONS.md, "Frames sealed here").
+ *
+ * The newer key of a SAID seals the frame. Refuses: 1 the state or the SAID; 2 `sealed` shorter than the frame; 15 a frame of fewer than 12 octets;
+ * 10 an unknown SAID, or one of suite 256; 14 no key. A short frame into a slice that is shorter still is refused with 2. */
+curlewreel_sealed curlewreel_modem_seal_frame(curlewreel_modem modem, uint16_t said, const uint8_t *frame, size_t frame_len, uint8_t *sealed,
+                                              size_t sealed_len);
+
+/* The held key with the frame's number opens it. Refuses: 1 as curlewreel_modem_open; 2 `opened` shorter than the frame, `out` of fewer than 216
+ * octets, or a `write_key` that has not 20; 15 a frame of fewer than 12 octets; 10 another address, an unknown SAID, or one of suite 256; 13 no such
+ * key. `taken`, `refused` and what 13 does and sends are as in curlewreel_modem_open: 10 and 13 count, 15 does not. */
+curlewreel_modem_opening curlewreel_modem_open_frame(curlewreel_modem modem, uint8_t direction, uint64_t address, uint16_t said, uint8_t number,
+                                                     const uint8_t *frame, size_t frame_len, const uint8_t *write_key, size_t write_key_len,
+                                                     uint8_t *opened, size_t opened_len, uint8_t *out, size_t out_len);
 
 /* The head-end. Its state passes by value in and out like the modem's; the records of its associations are a slice of the caller's, of
  * any length, of which at most 64 come into use; `list` and `clock` change them and the other calls read them. The state says how many are in
@@ -472,7 +502,8 @@ curlewreel_sealed curlewreel_headend_seal(curlewreel_headend headend, const curl
                                           uint64_t address, uint16_t said, uint8_t *tek, size_t tek_len, uint8_t *vector,
                                           size_t vector_len);
 
-/* What opening answers: the number, how many octets of TEK and of vector were written, how many of a TEK Invalid, and the head-end after it. */
+/* What opening answers: the number, how many octets were written of TEK and of vector each, or by open_frame of the frame, how many of a TEK
+ * Invalid, and the head-end after it. */
 typedef struct {
     uint8_t number;
     size_t width;
@@ -489,6 +520,23 @@ curlewreel_headend_opening curlewreel_headend_open(curlewreel_headend headend, c
                                                    uint8_t direction, uint64_t address, uint16_t said, uint8_t number,
                                                    const uint8_t *write_key, size_t write_key_len, uint8_t *tek, size_t tek_len,
                                                    uint8_t *vector, size_t vector_len, uint8_t *invalid, size_t invalid_len);
+
+/* Frames sealed here, as at the modem. The older key of a SAID of that modem seals the frame. Refuses: 1 as curlewreel_headend_seal; 2 fewer records
+ * than are in use, or `sealed` shorter than the frame; 15 a frame of fewer than 12 octets; 10 an address that is not listed, a SAID that is not
+ * that modem's, or one of suite 256. */
+curlewreel_sealed curlewreel_headend_seal_frame(curlewreel_headend headend, const curlewreel_record *records, size_t records_len,
+                                                uint64_t address, uint16_t said, const uint8_t *frame, size_t frame_len, uint8_t *sealed,
+                                                size_t sealed_len);
+
+/* The held key with the frame's number opens it. Refuses: 1 as curlewreel_headend_open; 2 fewer records than are in use, `opened` shorter than the
+ * frame, `invalid` of fewer than 40 octets, or a `write_key` that has not 20; 15 a frame of fewer than 12 octets; 10 an address that is not listed, a
+ * SAID that is not that modem's, or one of suite 256; 13 no such key. `taken`, `refused` and the TEK Invalid of 13 are as in
+ * curlewreel_headend_open: 10 and 13 count, 15 does not. */
+curlewreel_headend_opening curlewreel_headend_open_frame(curlewreel_headend headend, const curlewreel_record *records, size_t records_len,
+                                                         uint8_t direction, uint64_t address, uint16_t said, uint8_t number,
+                                                         const uint8_t *frame, size_t frame_len, const uint8_t *write_key,
+                                                         size_t write_key_len, uint8_t *opened, size_t opened_len, uint8_t *invalid,
+                                                         size_t invalid_len);
 
 /* Small functions for the caller. They are no part of the library and are not proved. */
 
@@ -516,6 +564,7 @@ static inline const char *curlewreel_refusal_name(uint8_t number) {
     case CURLEWREEL_DIGEST_FAILS: return "digest fails";
     case CURLEWREEL_NO_KEY_FOR_FRAME: return "no key for frame";
     case CURLEWREEL_NO_KEY_TO_SEAL: return "no key to seal";
+    case CURLEWREEL_SHORT_FRAME: return "short frame";
     default: return "no such number";
     }
 }

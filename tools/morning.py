@@ -162,4 +162,13 @@ open_up(LOBBY, seal_up(LOBBY), ak=1)
 nought = up(renumbered(asked, 0))[0]
 assert nought[:4] == "0800"
 assert down(nought, own=1) == []
+
+# the rooms' frames in their octets (document 02, M-103): a frame each way comes back as it was; one of 11 octets is refused, and one for the lobby, whose suite is 256
+plain = "d0a1b2c3d4020000a1b2c3d5" + "".join("%02x" % n for n in range(29))
+number, sealed = call("sealdownframe,%d,%d,%s" % (HOTEL, ROOMS, plain))
+assert call("opendownframe,1,%d,%d,%s,%s,%s" % (HOTEL, ROOMS, number, up_key(1), sealed)) == [plain]
+number, sealed = call("sealupframe,%d,%s" % (ROOMS, plain))
+assert call("openupframe,0,%d,%d,%s,%s,%s" % (HOTEL, ROOMS, number, down_key(1), sealed)) == [plain]
+assert call("sealupframe,%d,%s" % (ROOMS, plain[:22])) == []
+assert call("sealupframe,%d,%s" % (LOBBY, plain)) == []
 print("\n".join(calls))

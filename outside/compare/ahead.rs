@@ -57,9 +57,11 @@ pub struct Ahead {
     /// Refused for it under a key of 21 octets, and with 2 for that key where the record is not too far ahead.
     before_length: u64,
     by_length: u64,
-    /// Frames sealed and opened with a record too far ahead for a Key Reply.
+    /// Frames sealed and opened with a record too far ahead for a Key Reply, and frames' octets.
     sealed: u64,
     opened: u64,
+    octets_sealed: u64,
+    octets_opened: u64,
     /// Records further ahead than the calls make them that the clock rolled, and that it left.
     rolled: u64,
     left: u64,
@@ -91,6 +93,8 @@ impl Ahead {
             }
             Call::SealDown { said, .. } if wanted.starts_with("0,") => self.sealed += u64::from(of_said(*said) > LONGEST),
             Call::OpenUp(f) if wanted.starts_with("0,") => self.opened += u64::from(of_said(f.said) > LONGEST),
+            Call::SealDownFrame { said, .. } if wanted.starts_with("0,") => self.octets_sealed += u64::from(of_said(*said) > LONGEST),
+            Call::OpenUpFrame(f, _) if wanted.starts_with("0,") => self.octets_opened += u64::from(of_said(f.said) > LONGEST),
             Call::Clock { .. } if wanted.starts_with("0,") => {
                 let far = |p: &(&Record, &Record)| life(p.0) > before.settings.life;
                 for (a, b) in before.records.iter().zip(&after.records).filter(far) {
@@ -114,6 +118,8 @@ impl Ahead {
             ("for that key", self.by_length),
             ("frames sealed", self.sealed),
             ("opened", self.opened),
+            ("octets sealed", self.octets_sealed),
+            ("octets opened", self.octets_opened),
             ("records rolled", self.rolled),
             ("left", self.left),
         ];

@@ -6,6 +6,7 @@
 
 mod as_c;
 mod bench_ends;
+mod bench_frames;
 mod bench_messages;
 mod engine;
 mod library;
@@ -33,7 +34,9 @@ fn main() {
     let mut table = Table::new(rounds);
     bench_messages::rows(&mut table);
     bench_ends::rows(&mut table);
+    let octets_a_second = bench_frames::rows(&mut table);
     table.told();
+    println!("{octets_a_second}");
     println!();
     sizes();
     println!();

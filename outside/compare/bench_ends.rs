@@ -24,29 +24,29 @@ const SETTINGS: settings::Settings = settings::Settings {
 const AUTH_KEY: [u8; 128] = [5; 128];
 
 /// The message keys of what goes up and of what goes down.
-const UP: [u8; KEY] = [1; KEY];
-const DOWN: [u8; KEY] = [2; KEY];
+pub const UP: [u8; KEY] = [1; KEY];
+pub const DOWN: [u8; KEY] = [2; KEY];
 
 /// A head-end's state in C's structs, with its records and a slice for its answer.
 #[derive(Clone)]
-struct HeadC {
-    headend: Headend,
-    records: Vec<Record>,
-    out: [u8; 342],
+pub struct HeadC {
+    pub headend: Headend,
+    pub records: Vec<Record>,
+    pub out: [u8; 342],
 }
 
 #[derive(Clone)]
-struct ModemC {
-    modem: Modem,
-    out: [u8; 216],
+pub struct ModemC {
+    pub modem: Modem,
+    pub out: [u8; 216],
 }
 
-fn head_of(head: &HeadEnd) -> HeadC {
+pub fn head_of(head: &HeadEnd) -> HeadC {
     let headend = as_c::headend_of(head, &[Entry::default(); 16]);
     HeadC { headend, records: head.records.iter().map(as_c::record_of).collect(), out: [0; 342] }
 }
 
-fn modem_of(m: &modem::Modem) -> ModemC {
+pub fn modem_of(m: &modem::Modem) -> ModemC {
     ModemC { modem: as_c::modem_of(m), out: [0; 216] }
 }
 
@@ -65,7 +65,7 @@ fn head_with(records: usize) -> (HeadEnd, u64) {
 }
 
 /// Both ends after the modem's authorization, and its Key Requests.
-fn authorized(records: usize) -> (HeadEnd, modem::Modem, Vec<u8>) {
+pub fn authorized(records: usize) -> (HeadEnd, modem::Modem, Vec<u8>) {
     let (mut head, address) = head_with(records);
     let mut m = modem::Modem::new(SETTINGS, address, 5).expect("a modem");
     let sent = m.established().expect("established");
@@ -140,7 +140,7 @@ fn modem_clock(m: &mut ModemC, second: u64) -> usize {
 }
 
 /// The modem before its last Key Reply, and that reply.
-fn before_reply() -> (modem::Modem, Vec<u8>) {
+pub fn before_reply() -> (modem::Modem, Vec<u8>) {
     let (mut head, mut m, requests) = authorized(4);
     let answer = |r: &[u8]| head.receive(m.address, &UP, &DOWN, &AUTH_KEY, r).expect("a Key Reply");
     let mut replies: Vec<Vec<u8>> = requests.chunks(36).map(answer).collect();

@@ -24,6 +24,10 @@ pub enum Call {
     SealUp { said: u16 },
     OpenUp(Frame),
     OpenDown(Frame),
+    SealDownFrame { address: u64, said: u16, octets: Vec<u8> },
+    SealUpFrame { said: u16, octets: Vec<u8> },
+    OpenUpFrame(Frame, Vec<u8>),
+    OpenDownFrame(Frame, Vec<u8>),
 }
 
 /// A number too large for C's type becomes its largest, which is out of the limits too.
@@ -54,6 +58,10 @@ impl Call {
             "sealdown" => Call::SealDown { address: n(1), said: two(n(2)) },
             "sealup" => Call::SealUp { said: two(n(1)) },
             "openup" => Call::OpenUp(frame()),
+            "sealdownframe" => Call::SealDownFrame { address: n(1), said: two(n(2)), octets: unhex(f[3]) },
+            "sealupframe" => Call::SealUpFrame { said: two(n(1)), octets: unhex(f[2]) },
+            "openupframe" => Call::OpenUpFrame(frame(), unhex(f[6])),
+            "opendownframe" => Call::OpenDownFrame(frame(), unhex(f[6])),
             _ => Call::OpenDown(frame()),
         }
     }
@@ -63,6 +71,7 @@ impl Call {
         match self {
             Call::Clock { .. } => (true, true),
             Call::List { .. } | Call::Up { .. } | Call::SealDown { .. } | Call::OpenUp(_) => (true, false),
+            Call::SealDownFrame { .. } | Call::OpenUpFrame(..) => (true, false),
             _ => (false, true),
         }
     }
@@ -71,8 +80,9 @@ impl Call {
     pub fn room(&self) -> usize {
         match self {
             Call::Up { .. } => 342,
-            Call::OpenUp(_) => 40,
+            Call::OpenUp(_) | Call::OpenUpFrame(..) => 40,
             Call::List { .. } | Call::SealDown { .. } | Call::SealUp { .. } => 0,
+            Call::SealDownFrame { .. } | Call::SealUpFrame { .. } => 0,
             _ => 216,
         }
     }
@@ -80,6 +90,35 @@ impl Call {
     /// Does it lend slices for a TEK and a vector?
     pub fn keys(&self) -> bool {
         matches!(self, Call::SealDown { .. } | Call::SealUp { .. } | Call::OpenUp(_) | Call::OpenDown(_))
+    }
+
+    /// The octets of a frame that it seals or opens itself: the slice for what comes of them has to have as many.
+    pub fn frame(&self) -> Option<&[u8]> {
+        match self {
+            Call::SealDownFrame { octets, .. } | Call::SealUpFrame { octets, .. } => Some(octets),
+            Call::OpenUpFrame(_, octets) | Call::OpenDownFrame(_, octets) => Some(octets),
+            _ => None,
+        }
+    }
+
+    /// The SAID at the head-end that a frame is sealed or opened for, and the address.
+    pub fn of_headend_frame(&self) -> Option<(u64, u16)> {
+        match self {
+            Call::SealDown { address, said } | Call::SealDownFrame { address, said, .. } => Some((*address, *said)),
+            Call::OpenUp(frame) | Call::OpenUpFrame(frame, _) => Some((frame.address, frame.said)),
+            _ => None,
+        }
+    }
+
+    /// Of a call on a frame's octets, that which gives or takes the key in its place.
+    pub fn that_gives_keys(&self) -> Option<Call> {
+        match self {
+            Call::SealDownFrame { address, said, .. } => Some(Call::SealDown { address: *address, said: *said }),
+            Call::SealUpFrame { said, .. } => Some(Call::SealUp { said: *said }),
+            Call::OpenUpFrame(frame, _) => Some(Call::OpenUp(frame.clone())),
+            Call::OpenDownFrame(frame, _) => Some(Call::OpenDown(frame.clone())),
+            _ => None,
+        }
     }
 
     /// The message keys that it lends, with a name for each.
@@ -90,6 +129,8 @@ impl Call {
             Call::Down { read_key, write_key, .. } => vec![("the modem's read_key", read_key), ("the modem's write_key", write_key)],
             Call::OpenUp(frame) => vec![("write_key of opening at the head-end", &mut frame.write_key)],
             Call::OpenDown(frame) => vec![("write_key of opening at the modem", &mut frame.write_key)],
+            Call::OpenUpFrame(frame, _) => vec![("write_key of opening octets at the head-end", &mut frame.write_key)],
+            Call::OpenDownFrame(frame, _) => vec![("write_key of opening octets at the modem", &mut frame.write_key)],
             _ => vec![],
         }
     }

@@ -14,7 +14,7 @@ use std::collections::BTreeMap;
 pub const CODES: [usize; 4] = [7, 8, 9, 11];
 
 /// The keys that calls are lent: the line's name, the field, and what it is.
-const KEYS: [(&str, usize, &str); 7] = [
+const KEYS: [(&str, usize, &str); 9] = [
     ("clock", 3, "the clock's write_key"),
     ("up", 2, "the head-end's read_key"),
     ("up", 3, "the head-end's write_key"),
@@ -22,6 +22,8 @@ const KEYS: [(&str, usize, &str); 7] = [
     ("down", 2, "the modem's write_key"),
     ("openup", 5, "write_key of opening at the head-end"),
     ("opendown", 5, "write_key of opening at the modem"),
+    ("openupframe", 5, "write_key of opening octets at the head-end"),
+    ("opendownframe", 5, "write_key of opening octets at the modem"),
 ];
 
 /// The lengths that each key has to have had, all refused.
@@ -66,7 +68,7 @@ impl Digests {
         if number == 0 && matches!(fields[0], "up" | "down") {
             self.skipped.add(&unhex(fields[fields.len() - 1]));
         }
-        if matches!((fields[0], number), ("up" | "down" | "clock", 0) | ("opendown", 13)) {
+        if matches!((fields[0], number), ("up" | "down" | "clock", 0) | ("opendown" | "opendownframe", 13)) {
             self.renumbered.put_out(&unhex(answer.split(',').nth(1).unwrap_or_default()));
         }
     }

@@ -7,8 +7,10 @@ mod calls;
 mod damage;
 mod digests;
 mod ends_library;
+mod ends_refused;
 mod engine;
 mod forge;
+mod frames;
 mod identifiers;
 mod keys;
 mod make;
@@ -24,23 +26,21 @@ mod transitions;
 
 use ahead::Ahead;
 use calls::Call;
-use curlewreel_outside::message::{read, End};
+use curlewreel_outside::cipher::{opened, sealed};
 use curlewreel_outside::replay::Ends;
 use digests::Digests;
 use ends_library::{Lengths, Run};
+use frames::Frames;
 use identifiers::Identifiers;
-use plant::Plant;
+use plant::{hex, unhex, Plant};
 use random::Random;
 use state::{State, RECORDS};
 use tally::{fail, number_of, Tally};
 use transitions::Transitions;
 
 /// The numbers that each end can answer: document 01 asks 4 and 5 of the head-end alone, 12 and 14 of the modem alone.
-const OF_HEADEND: [usize; 13] = [0, 1, 2, 3, 4, 5, 6, 7, 8, 9, 10, 11, 13];
-const OF_MODEM: [usize; 13] = [0, 1, 2, 3, 6, 7, 8, 9, 10, 11, 12, 13, 14];
-
-/// What a call answers where fewer records are lent than are in use, as the header says.
-const TOO_FEW_RECORDS: u8 = 2;
+const OF_HEADEND: [usize; 14] = [0, 1, 2, 3, 4, 5, 6, 7, 8, 9, 10, 11, 13, 15];
+const OF_MODEM: [usize; 14] = [0, 1, 2, 3, 6, 7, 8, 9, 10, 11, 12, 13, 14, 15];
 
 /// One list: both implementations, and the counts of what was answered.
 struct List<'a> {
@@ -55,6 +55,7 @@ struct List<'a> {
     ahead: &'a mut Ahead,
     digests: &'a mut Digests,
     identifiers: &'a mut Identifiers,
+    frames: &'a mut Frames,
 }
 
 impl List<'_> {
@@ -73,118 +74,10 @@ impl List<'_> {
         let least = (self.state.headend.used + call.adds()).min(RECORDS);
         let records = if self.r.one_in(2) { RECORDS } else { least + self.r.below((RECORDS - least) as u64 + 1) as usize };
         let mut more = |n: usize| n + self.r.below(3) as usize;
-        Lengths { records, out: more(call.room()), tek: more(16), vector: more(16) }
-    }
-
-    /// A call that has to be refused with `wanted` and to change nothing.
-    fn refused(&mut self, call: &Call, lengths: Lengths, state: &State, wanted: u8) -> Result<(), String> {
-        let mut run = Run::new(state, lengths, self.r.next() as u8);
-        let (number, line) = run.call(call)?;
-        if number != wanted || line != wanted.to_string() {
-            return Err(format!("library {line}, due {wanted}"));
-        }
-        let now = &run.state;
-        if now.headend != state.headend || now.modem != state.modem || now.places != state.places {
-            return Err(format!("refused with {wanted}, and something was changed"));
-        }
-        self.count(call, number);
-        Ok(())
-    }
-
-    /// One lent slice is too short: 2, or 4 for a listing's new records, where no earlier question refuses.
-    fn short(&mut self, call: &Call, answer: u8) -> Result<(), String> {
-        let (mut lengths, used, adds) = (self.lengths(call), self.state.headend.used, call.adds());
-        let mut due = 2;
-        let shorter = |r: &mut Random, n: usize| r.below(n as u64) as usize;
-        match self.r.below(4) {
-            0 if call.room() > 0 => lengths.out = shorter(&mut self.r, call.room()),
-            1 if call.keys() => lengths.tek = shorter(&mut self.r, 16),
-            2 if call.keys() => lengths.vector = shorter(&mut self.r, 16),
-            3 if adds > 0 && used + adds <= RECORDS => {
-                lengths.records = used + shorter(&mut self.r, adds);
-                due = if answer == 2 { 2 } else { 4 };
-            }
-            _ if call.ends().0 && used > 0 => {
-                lengths.records = shorter(&mut self.r, used);
-                due = TOO_FEW_RECORDS;
-            }
-            _ => return Ok(()),
-        }
-        let due = if answer == 1 { 1 } else { due };
-        let state = self.state.clone();
-        self.refused(call, lengths, &state, due).map_err(|e| {
-            let Lengths { records, out, tek, vector } = lengths;
-            format!("{used} records in use, slices of {records} records, {out}, {tek} and {vector} octets: {e}")
-        })
-    }
-
-    /// One message key has another length: 2, where no earlier question refuses.
-    fn other_length(&mut self, call: &Call, answer: u8) -> Result<(), String> {
-        let (mut call, lengths, state) = (call.clone(), self.lengths(call), self.state.clone());
-        let mut keys = call.message_keys();
-        if keys.is_empty() {
-            return Ok(());
-        }
-        let at = self.r.below(keys.len() as u64) as usize;
-        let (what, key) = &mut keys[at];
-        **key = keys::of_other_length(&mut self.r, key);
-        let (what, length, due) = (*what, key.len(), if answer == 1 { 1 } else { 2 });
-        self.refused(&call, lengths, &state, due).map_err(|e| format!("{what} of {length} octets: {e}"))?;
-        self.digests.add_length(what, length);
-        Ok(())
-    }
-
-    /// A call that uses a SAID's record: it has to be one of those in use and to have the suite that the entry names.
-    fn unmatched(&mut self, call: &Call, answer: &str) -> Result<(), String> {
-        let said = match call {
-            Call::SealDown { said, .. } if answer.starts_with("0,") => *said,
-            Call::OpenUp(frame) if answer.starts_with("0,") || answer.starts_with("13,") => frame.said,
-            Call::Up { octets, .. } if answer.starts_with("0,08") => read(End::HeadEnd, octets).map_or(0, |m| m.fields.said),
-            _ => return Ok(()),
-        };
-        let (lengths, mut state) = (self.lengths(call), self.state.clone());
-        if self.r.one_in(2) {
-            state.headend.used = (0..state.headend.used).find(|i| state.record(*i).said == said).unwrap_or(0);
-        } else {
-            for listing in state.headend.entries.iter_mut().map(|e| &mut e.listing) {
-                let of_said = |i: &usize| listing.saids[*i] == said;
-                (0..4).filter(of_said).for_each(|i| listing.suites[i] = if listing.suites[i] == 256 { 768 } else { 256 });
-            }
-        }
-        let (mut call, mut due) = (call.clone(), 1);
-        // before the length of a key, wherever the digest holds under it: with a zero behind the right one, and not with another octet
-        if let Call::Up { read_key, write_key, .. } = &mut call {
-            match self.r.below(6) {
-                0 => read_key.push(0),
-                1 => write_key.truncate(19),
-                2 => {
-                    read_key.push(1);
-                    due = 2;
-                }
-                _ => {}
-            }
-        }
-        self.refused(&call, lengths, &state, due).map_err(|e| format!("the record of SAID {said} is not the entry's: {e}"))
-    }
-
-    /// A field of the state, a record or an argument that the text cannot give is out of its limits.
-    fn damaged(&mut self, call: &Call) -> Result<(), String> {
-        let (mut state, mut call) = (self.state.clone(), call.clone());
-        let (lengths, out_of_range, ends) = (self.lengths(&call), 2 + self.r.below(254) as u8, call.ends());
-        let what = match &mut call {
-            Call::List { allowed, .. } if self.r.one_in(8) => {
-                *allowed = out_of_range;
-                "allowed"
-            }
-            Call::List { listing, .. } if self.r.one_in(8) => {
-                listing.count = self.r.pick(&[0, 5, usize::MAX]);
-                "a listing's count"
-            }
-            _ if ends.0 && (!ends.1 || self.r.one_in(2)) => damage::headend(&mut self.r, &mut state),
-            _ => damage::modem(&mut self.r, &mut state.modem),
-        };
-        self.refused(&call, lengths, &state, 1)
-            .map_err(|e| format!("{what} out of its limits: {e}\n{:?}\n{:?}", state.headend, state.modem))
+        let (out, tek, vector, frame) = (more(call.room()), more(16), more(16), more(call.frame().map_or(0, <[u8]>::len)));
+        // now and then a whole block behind what is written, and more
+        let frame = frame + if self.r.one_in(4) { self.r.below(40) as usize } else { 0 };
+        Lengths { records, out, tek, vector, frame }
     }
 
     /// The call of `line` with the deadlines of the records in use moved ahead at both implementations; `plain` is what it answers without. A
@@ -210,6 +103,25 @@ impl List<'_> {
         Ok(())
     }
 
+    /// The call that gives the key in the place of one on octets, made of the same state: with its TEK and vector the outside cipher gives the same octets,
+    /// and 13 and 14 are answered as they are there.
+    fn crosswise(&mut self, call: &Call, given: &str) -> Result<(), String> {
+        let (Some(other), Some(octets), Some(answer)) = (call.that_gives_keys(), call.frame(), number_of(given)) else { return Ok(()) };
+        let lengths = self.lengths(&other);
+        let (_, line) = Run::new(&self.state, lengths, self.r.next() as u8).call(&other)?;
+        let keys: Vec<&str> = line.split(',').collect();
+        let due = match (answer, &keys[..]) {
+            (0, ["0", key, tek, vector]) => format!("0,{key},{}", with_key(sealed, tek, vector, octets)),
+            (0, ["0", tek, vector]) => format!("0,{}", with_key(opened, tek, vector, octets)),
+            (0 | 13 | 14, _) => line.clone(),
+            _ => return Ok(()),
+        };
+        if due != given {
+            return Err(format!("library {given}, and {line} where it gives the key"));
+        }
+        Ok(())
+    }
+
     /// The next call at both implementations.
     fn next(&mut self) -> Result<(), String> {
         let before = self.r.one_in(3).then(|| self.plant.ends.clone());
@@ -218,7 +130,7 @@ impl List<'_> {
         let Some(answer) = number_of(&wanted) else { return Ok(()) };
         let call = Call::parse(&line);
         if self.r.one_in(3) {
-            self.short(&call, answer).map_err(shown)?;
+            self.short(&line, &call, answer).map_err(shown)?;
         }
         if self.r.one_in(3) {
             self.other_length(&call, answer).map_err(shown)?;
@@ -235,18 +147,29 @@ impl List<'_> {
         let lengths = self.lengths(&call);
         let run = Run::new(&self.state, lengths, self.r.next() as u8);
         let (after, given) = run.compared(&call, &self.state, &wanted, &self.plant.ends).map_err(shown)?;
+        self.crosswise(&call, &given).map_err(shown)?;
         self.transitions.add(&self.state.modem, &after.modem);
         Identifiers::none_numbered_0(&line, &given);
         self.identifiers.add(&line, &given, &self.state.machines(), &after.machines());
         self.state = after;
         self.count(&call, answer);
         self.digests.add(&line, &wanted);
-        if matches!((&call, answer), (Call::Up { .. }, 0) | (Call::OpenUp(_), 13)) {
+        self.frames.add(&line, &given, &self.plant);
+        if matches!((&call, answer), (Call::Up { .. }, 0) | (Call::OpenUp(_) | Call::OpenUpFrame(..), 13)) {
             let code = first_octet(&wanted).map_or(0, usize::from);
             self.codes[code] += 1;
         }
         Ok(())
     }
+}
+
+/// Sealing or opening with TEK and vector.
+type Cipher = fn(&[u8; 16], &[u8; 16], &[u8]) -> Vec<u8>;
+
+/// Octets sealed or opened by the outside cipher, with a key of 16 octets in text.
+fn with_key(cipher: Cipher, tek: &str, vector: &str, octets: &[u8]) -> String {
+    let key = |text: &str| unhex(text).try_into().ok();
+    key(tek).zip(key(vector)).map_or_else(|| "no key of 16 octets".to_string(), |(tek, vector)| hex(&cipher(&tek, &vector, octets)))
 }
 
 /// The code of the message in an answer's last field.
@@ -260,16 +183,18 @@ fn main() {
     let (lists, calls, seed) = (args.next().unwrap_or(500), args.next().unwrap_or(400), args.next().unwrap_or(1));
     let (mut headend, mut modem, mut codes, mut transitions) = (Tally::default(), Tally::default(), [0; 13], Transitions::default());
     let (mut ahead, mut digests, mut identifiers) = (Ahead::default(), Digests::default(), Identifiers::default());
+    let mut frames = Frames::default();
     set_ups::wrong_set_ups(&mut Random(seed));
     for i in 0..lists {
         let (mut plant, _) = Plant::new(seed + i);
         let mut r = Random(!(seed + i));
         let state = set_ups::start(&mut plant, &mut r);
         let (headend, modem, codes, transitions) = (&mut headend, &mut modem, &mut codes, &mut transitions);
-        let (ahead, digests, identifiers) = (&mut ahead, &mut digests, &mut identifiers);
+        let (ahead, digests, identifiers, frames) = (&mut ahead, &mut digests, &mut identifiers, &mut frames);
         digests.renumbered.begin();
         identifiers.begin();
-        let mut list = List { plant, state, r, headend, modem, codes, transitions, ahead, digests, identifiers };
+        frames.begin(&plant);
+        let mut list = List { plant, state, r, headend, modem, codes, transitions, ahead, digests, identifiers, frames };
         for at in 0..plant::lists::calls_of(seed + i, calls) {
             if let Err(e) = list.next() {
                 fail(&format!("differs, list {}, call {at}: {e}", seed + i));
@@ -289,4 +214,5 @@ fn main() {
     ahead.told();
     digests.told("both ends");
     identifiers.told("both ends");
+    frames.told("both ends", true);
 }

@@ -6,6 +6,9 @@ use crate::plant::hex;
 use crate::state::State;
 use curlewreel_outside::replay::Ends;
 
+#[path = "ends_frames.rs"]
+mod frames;
+
 /// How long the lent slices of a call are.
 #[derive(Clone, Copy)]
 pub struct Lengths {
@@ -13,6 +16,8 @@ pub struct Lengths {
     pub out: usize,
     pub tek: usize,
     pub vector: usize,
+    /// For what comes of a frame's octets.
+    pub frame: usize,
 }
 
 /// A number and the line of an answer; or what is wrong with it.
@@ -28,6 +33,11 @@ impl Lent {
     fn new(length: usize, first: u8) -> Lent {
         let before: Vec<u8> = (0..length).map(|i| first.wrapping_add((i % 251) as u8)).collect();
         Lent { now: before.clone(), before }
+    }
+
+    /// A copy of octets that a call reads, to see that it writes none of them.
+    fn of(octets: &[u8]) -> Lent {
+        Lent { before: octets.to_vec(), now: octets.to_vec() }
     }
 
     fn lend(&mut self) -> (*mut u8, usize) {
@@ -81,13 +91,15 @@ pub struct Run {
     tek: Lent,
     vector: Lent,
     out: Lent,
+    frame: Lent,
 }
 
 impl Run {
     /// `first` tells what the lent octets are before the call.
     pub fn new(state: &State, lengths: Lengths, first: u8) -> Run {
         let lent = |n: usize, k: u8| Lent::new(n, first.wrapping_add(k));
-        Run { state: state.clone(), lengths, tek: lent(lengths.tek, 0), vector: lent(lengths.vector, 99), out: lent(lengths.out, 7) }
+        let (tek, vector, out, frame) = (lent(lengths.tek, 0), lent(lengths.vector, 99), lent(lengths.out, 7), lent(lengths.frame, 55));
+        Run { state: state.clone(), lengths, tek, vector, out, frame }
     }
 
     pub fn call(&mut self, call: &Call) -> Answer {
@@ -106,6 +118,10 @@ impl Run {
             }
             Call::SealUp { said } => self.seal_up(*said),
             Call::OpenDown(frame) => self.open_down(frame),
+            Call::SealDownFrame { address, said, octets } => self.seal_down_frame(*address, *said, octets),
+            Call::SealUpFrame { said, octets } => self.seal_up_frame(*said, octets),
+            Call::OpenUpFrame(frame, octets) => self.open_up_frame(frame, octets),
+            Call::OpenDownFrame(frame, octets) => self.open_down_frame(frame, octets),
         }
     }
 

@@ -2,6 +2,11 @@
 // each program uses a part of them
 #![allow(dead_code)]
 
+#[path = "engine_frames.rs"]
+mod frames;
+#[allow(unused_imports)]
+pub use frames::*;
+
 #[repr(C)]
 pub struct Written {
     pub number: u8,

@@ -47,7 +47,7 @@ pub struct Identifiers {
 fn requests_of(call: &str, answer: &str) -> Vec<Vec<u8>> {
     let name = call.split(',').next().unwrap_or_default();
     let out = match (name, answer.split_once(',')) {
-        ("clock" | "established" | "reauth" | "down", Some(("0", out))) | ("opendown", Some(("13", out))) => out,
+        ("clock" | "established" | "reauth" | "down", Some(("0", out))) | ("opendown" | "opendownframe", Some(("13", out))) => out,
         _ => return Vec::new(),
     };
     apart(&unhex(out)).into_iter().filter(|m| matches!(m[0], 4 | 7)).collect()

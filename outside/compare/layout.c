@@ -232,6 +232,7 @@ static void fields_of_messages(void) {
     SAME(curlewreel_read(CURLEWREEL_HEAD_END, out, w.count, key_up, 19, back, sizeof back), 2);
 }
 
+#include "layout_frames.h"
 #include "layout_given.h"
 
 int main(int argc, char **argv) {
@@ -244,6 +245,7 @@ int main(int argc, char **argv) {
     authorizes();
     exchanges();
     rolls();
+    frames_sealed_here();
     frames();
     given_to_modem();
     given_to_headend();

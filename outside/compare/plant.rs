@@ -7,7 +7,10 @@ use crate::keys::AuthKeys;
 use crate::random::Random;
 use crate::text;
 use curlewreel_outside::replay::Ends;
+use std::collections::BTreeMap;
 
+#[path = "plant_frames.rs"]
+pub mod frames;
 #[path = "plant_identifiers.rs"]
 mod identifiers;
 #[path = "plant_lists.rs"]
@@ -30,10 +33,15 @@ pub struct Plant {
     listings: u64,
     /// Does the first clock call go near the clock's last second?
     far: bool,
+    /// Does every other call bring keys to the modem, so that there is traffic?
+    calm: bool,
     saids: Vec<u64>,
     up: Vec<Vec<u8>>,
     down: Vec<Vec<u8>>,
     frames: Vec<Frame>,
+    /// Frames with their octets after the sealing; and of those sealed with a key that a call gave, the octets before it by those after it.
+    sealed: Vec<(Frame, Vec<u8>)>,
+    pub crossed: BTreeMap<Vec<u8>, Vec<u8>>,
     auth_keys: AuthKeys,
     first: bool,
     /// The Identifier that the modem's requests are brought to, until they are there.
@@ -67,10 +75,29 @@ impl Plant {
         let ends = Ends::start(&input.as_bytes().split(|c| *c == b'\n').collect::<Vec<_>>()).expect("a start");
         // by the seed itself, so that a few lists have each kind
         let (listings, far) = (if seed % 8 == 3 { 30 } else { 2 }, seed % 12 == 7);
-        let (saids, up, down, frames) = (Vec::new(), Vec::new(), Vec::new(), Vec::new());
+        let (saids, up, down, frames, sealed) = (Vec::new(), Vec::new(), Vec::new(), Vec::new(), Vec::new());
         let (auth_keys, near) = (AuthKeys::default(), lists::is_near_255(seed).then(|| r.pick(&[245, 250, 255])));
-        let plant =
-            Plant { r, ends, life, aklife, address, clock: 0, listings, far, saids, up, down, frames, auth_keys, first: true, near };
+        let (clock, calm, first, crossed) = (0, lists::is_calm(seed), true, BTreeMap::new());
+        let plant = Plant {
+            r,
+            ends,
+            life,
+            aklife,
+            address,
+            clock,
+            listings,
+            far,
+            calm,
+            saids,
+            up,
+            down,
+            frames,
+            sealed,
+            crossed,
+            auth_keys,
+            first,
+            near,
+        };
         (plant, input)
     }
 
@@ -184,7 +211,10 @@ impl Plant {
         if self.r.below(100) < self.listings {
             return self.list();
         }
-        match self.r.below(100) {
+        if let Some(call) = self.to_keys() {
+            return call;
+        }
+        match self.r.below(if self.calm { 200 } else { 125 }) {
             0..=17 => self.clock(),
             18..=20 => "established".to_string(),
             21 => "reauth".to_string(),
@@ -192,7 +222,8 @@ impl Plant {
             47..=71 => self.message(false),
             72..=78 => format!("sealdown,{},{}", self.some_address(), self.said()),
             79..=85 => format!("sealup,{}", self.said()),
-            _ => self.frame(),
+            86..=99 => self.frame(),
+            _ => self.on_octets(),
         }
     }
 
@@ -206,17 +237,21 @@ impl Plant {
                 self.clock = number(1);
                 self.up.extend(apart(&unhex(given[1])));
             }
-            ("established" | "reauth", "0") | ("opendown", "13") => self.up.extend(apart(&unhex(given[1]))),
+            ("established" | "reauth", "0") | ("opendown" | "opendownframe", "13") => self.up.extend(apart(&unhex(given[1]))),
             ("down", "0") => {
                 self.keep_auth_key(None, &unhex(fields[3]));
                 self.up.extend(apart(&unhex(given[1])));
             }
-            ("up", "0") | ("openup", "13") => {
+            ("up", "0") | ("openup" | "openupframe", "13") => {
                 self.keep_auth_key(Some(number(if fields[0] == "up" { 1 } else { 2 })), &unhex(given[1]));
                 self.down.extend(apart(&unhex(given[1])));
             }
-            ("sealdown", "0") => self.frames.push(Frame(1, number(1), number(2), given[1].parse().expect("a number"))),
-            ("sealup", "0") => self.frames.push(Frame(0, self.address, number(1), given[1].parse().expect("a number"))),
+            ("sealdown" | "sealdownframe", "0") => {
+                self.keep_sealed(Frame(1, number(1), number(2), given[1].parse().expect("a number")), &given);
+            }
+            ("sealup" | "sealupframe", "0") => {
+                self.keep_sealed(Frame(0, self.address, number(1), given[1].parse().expect("a number")), &given);
+            }
             _ => {}
         }
     }

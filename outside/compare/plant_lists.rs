@@ -3,7 +3,6 @@
 use super::Plant;
 use crate::random::Random;
 use crate::text;
-use curlewreel_outside::modem::Modem;
 
 /// The four lines, the lives of both kinds of key, and the modem's address.
 pub fn set_up(r: &mut Random) -> (String, u64, u64, u64) {
@@ -32,6 +31,11 @@ pub fn is_near_255(seed: u64) -> bool {
     matches!(seed % 8, 2 | 4 | 6) || seed.is_multiple_of(20)
 }
 
+/// Are keys brought to the modem in this list, so that frames are sealed and opened?
+pub fn is_calm(seed: u64) -> bool {
+    seed % 3 == 1
+}
+
 /// How many calls a list has: one list in twenty has twelve times as many, so that key numbers come round; one in which the modem's counter is
 /// brought near 255 has as many more as that takes.
 pub fn calls_of(seed: u64, calls: u64) -> u64 {
@@ -40,8 +44,8 @@ pub fn calls_of(seed: u64, calls: u64) -> u64 {
 }
 
 /// A whole list with its answers. One in eight has a set-up that is wrong, and then the answers are what is printed instead; some have no
-/// line end at the end. `seen` gets the modem before the first call and after each, where the set-up is not made wrong.
-pub fn list(seed: u64, calls: u64, mut seen: impl FnMut(&Modem)) -> (String, String) {
+/// line end at the end. `seen` gets the plant before the first call, and after each with the call and its answer, where the set-up is not made wrong.
+pub fn list(seed: u64, calls: u64, mut seen: impl FnMut(&Plant, Option<(&str, &str)>)) -> (String, String) {
     let (mut plant, mut input) = Plant::new(seed);
     let mut output = String::new();
     let mut r = Random(!seed);
@@ -49,15 +53,15 @@ pub fn list(seed: u64, calls: u64, mut seen: impl FnMut(&Modem)) -> (String, Str
     if wrong {
         input = text::wrong_start(&mut r, seed / 8, &input);
     } else {
-        seen(&plant.ends.modem);
+        seen(&plant, None);
     }
     for _ in 0..calls {
         let (call, answer) = plant.next();
+        if !wrong {
+            seen(&plant, Some((&call, &answer)));
+        }
         input += &(call + "\n");
         output += &(answer + "\n");
-        if !wrong {
-            seen(&plant.ends.modem);
-        }
     }
     output += &plant.frames();
     if r.one_in(4) {

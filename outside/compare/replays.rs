@@ -2,6 +2,7 @@
 
 mod digests;
 mod forge;
+mod frames;
 mod identifiers;
 mod keys;
 mod make;
@@ -13,10 +14,11 @@ mod tally;
 mod text;
 
 use digests::Digests;
+use frames::Frames;
 use identifiers::{Identifiers, Machines};
 use std::io::Write;
 use std::process::{Command, Stdio};
-use tally::{fail, number_of, Tally};
+use tally::{fail, number_of, Tally, NUMBERS};
 
 /// What the program prints for an input.
 fn printed(program: &str, input: String) -> Vec<u8> {
@@ -87,10 +89,17 @@ fn main() {
     let n = |at: usize| args[at].parse::<u64>().expect("a number");
     let (lists, calls, seed, program) = (n(0), n(1), n(2), &args[3]);
     let (mut tally, mut no_calls, mut wrong_forms, mut wrong_values, mut by_both) = (Tally::default(), 0, 0, 0, [0, 0]);
-    let (mut digests, mut identifiers) = (Digests::default(), Identifiers::default());
+    let (mut digests, mut identifiers, mut frames) = (Digests::default(), Identifiers::default(), Frames::default());
     for list in seed..seed + lists {
         let mut modems = Vec::new();
-        let (input, wanted) = plant::lists::list(list, plant::lists::calls_of(list, calls), |modem| modems.push(Machines::of(modem)));
+        // a difference below ends the program, so the outside answers count as the program's
+        let (input, wanted) = plant::lists::list(list, plant::lists::calls_of(list, calls), |plant, call| {
+            modems.push(Machines::of(&plant.ends.modem));
+            match call {
+                None => frames.begin(plant),
+                Some((call, answer)) => frames.add(call, answer, plant),
+            }
+        });
         let given = printed(program, input.clone());
         if given != wanted.as_bytes() {
             differs(list, &input, wanted.as_bytes(), &given);
@@ -113,9 +122,10 @@ fn main() {
     println!("outside: {program}, {lists} lists of {calls} calls from seed {seed}, no difference");
     println!("outside: lines that are no calls {no_calls}, set-ups wrong in form {wrong_forms}, out of their limits {wrong_values}");
     println!("outside: clock calls that the head-end refuses with 2 and the modem with 3: {}; with 3 and 2: {}", by_both[0], by_both[1]);
-    tally.told("replay", &(0..15).collect::<Vec<_>>());
+    tally.told("replay", &(0..NUMBERS).collect::<Vec<_>>());
     digests.told("replay");
     identifiers.told("replay");
+    frames.told("replay", false);
     if [no_calls, wrong_forms, wrong_values, by_both[0], by_both[1]].contains(&0) {
         fail("a line that is no call, a set-up wrong in form or out of its limits, or a clock call that both ends refuse was not reached");
     }

@@ -52,7 +52,8 @@ impl Table {
         }
     }
 
-    pub fn row<E, O>(&mut self, name: &str, target: f64, batch: usize, engine: Side<E>, outside: Side<O>) {
+    /// Prints a row; gives the times of both.
+    pub fn row<E, O>(&mut self, name: &str, target: f64, batch: usize, engine: Side<E>, outside: Side<O>) -> (f64, f64) {
         let (mut engines, mut outsides) = (Vec::new(), Vec::new());
         // the first round warms up and is not kept
         for round in 0..=self.rounds {
@@ -67,5 +68,6 @@ impl Table {
         if e / o > target {
             self.above.push(name.to_string());
         }
+        (e, o)
     }
 }

@@ -1,9 +1,12 @@
-//! How often each of document 01's numbers was answered, and the end of a program that finds a difference.
+//! How often each of the numbers of documents 01 and 02 was answered, and the end of a program that finds a difference.
 // each program uses a part of it
 #![allow(dead_code)]
 
+/// How many numbers there are: 0 for done, and the refusals 1 to 15.
+pub const NUMBERS: usize = 16;
+
 #[derive(Default)]
-pub struct Tally([u64; 15]);
+pub struct Tally([u64; NUMBERS]);
 
 /// Ends the program with 1, and says why.
 pub fn fail(why: &str) -> ! {
@@ -30,7 +33,7 @@ impl Tally {
 
     /// Prints the counts; a number of `due` that was never answered is a failure.
     pub fn told(&self, what: &str, due: &[usize]) {
-        let counts: Vec<String> = (0..15).filter(|n| self.0[*n] > 0).map(|n| format!("{n}: {}", self.0[n])).collect();
+        let counts: Vec<String> = (0..NUMBERS).filter(|n| self.0[*n] > 0).map(|n| format!("{n}: {}", self.0[n])).collect();
         println!("outside: {what}, answers {}", counts.join(", "));
         if let Some(n) = due.iter().find(|n| self.0[**n] == 0) {
             fail(&format!("{what} never answered {n}"));

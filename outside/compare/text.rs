@@ -7,11 +7,12 @@ use crate::random::Random;
 /// The longest line that may be a call.
 const LINE: usize = 16_384;
 
-/// In the lines below a `K` stands for a message key.
+/// In the lines below a `K` stands for a message key, and an `F` for a frame of 13 octets.
 const KEY: &str = "2b2b2b2b2b2b2b2b2b2b2b2b2b2b2b2b2b2b2b2b";
+const FRAME: &str = "0102030405060708090a0b0c0d";
 
 /// Lines that are no calls, whatever came before.
-const NO_CALLS: [&str; 48] = [
+const NO_CALLS: [&str; 65] = [
     "",
     " ",
     ",",
@@ -60,10 +61,27 @@ const NO_CALLS: [&str; 48] = [
     "up,1,K,K,07",
     "up,1,1,07,0c000000",
     "up,1,K,K2,07,0c000000",
+    "sealupframe",
+    "sealupframe,1",
+    "sealupframe,,F",
+    "sealupframe,1,F0",
+    "sealupframe,1,F,",
+    "sealupframe,1,0A",
+    "sealupframe,F",
+    "Sealupframe,1,F",
+    "sealdownframe,1,1",
+    "sealdownframe,1,F",
+    "sealdownframe,1,1,1,F",
+    "sealdownframe,18446744073709551616,1,F",
+    "openupframe,0,1,1,1,K",
+    "openupframe,0,1,1,K,F",
+    "openupframe,0,1,1,1,K2,F",
+    "opendownframe,1,1,1,1,K,F,",
+    "opendownframe,1,1,1,1,K,F0",
 ];
 
-/// Calls with a number at the end of what the text or C can hold.
-const FAR_NUMBERS: [&str; 16] = [
+/// Calls with a number at the end of what the text or C can hold; with a frame below 12 octets too, which is asked behind it.
+const FAR_NUMBERS: [&str; 28] = [
     "sealup,18446744073709551615",
     "sealup,65536",
     "sealup,65537",
@@ -80,10 +98,22 @@ const FAR_NUMBERS: [&str; 16] = [
     "clock,18446744073709551615,,K",
     "clock,1000000000001,,K",
     "up,281474976710656,K,K,07,0c000000",
+    "sealupframe,65537,F",
+    "sealupframe,18446744073709551615,",
+    "sealdownframe,281474976710656,1,F",
+    "sealdownframe,1,65537,00",
+    "openupframe,256,1,1,1,K,F",
+    "openupframe,0,281474976710656,1,1,K,",
+    "openupframe,0,1,65537,1,K,F",
+    "openupframe,0,1,1,257,K,F",
+    "opendownframe,257,1,1,1,K,F",
+    "opendownframe,1,18446744073709551615,1,1,K,F",
+    "opendownframe,1,1,65537,1,K,00",
+    "opendownframe,1,1,1,256,K,F",
 ];
 
 /// Calls with a message key of another length, some with a number out of its limits, which comes first.
-const OTHER_KEYS: [&str; 16] = [
+const OTHER_KEYS: [&str; 22] = [
     "clock,5,,",
     "clock,1000000000001,,K00",
     "up,1,,K,07,0c000000",
@@ -100,17 +130,28 @@ const OTHER_KEYS: [&str; 16] = [
     "openup,0,1,1,16,K00",
     "opendown,1,1,1,1,K00",
     "opendown,0,1,1,1,",
+    "openupframe,0,1,1,1,,F",
+    "openupframe,0,1,1,1,K00,",
+    "openupframe,0,1,1,16,K00,F",
+    "opendownframe,1,1,1,1,K00,F",
+    "opendownframe,1,1,1,1,,00",
+    "opendownframe,0,1,1,1,,F",
 ];
 
-/// The line with its keys.
+/// The line with its keys and its frame.
 fn keyed(line: &str) -> String {
-    line.replace('K', KEY)
+    line.replace('K', KEY).replace('F', FRAME)
 }
 
-/// A line of this length: an Authentication Information with padding.
-fn long(length: usize) -> String {
+/// A line of this length: an Authentication Information with padding, or a frame.
+fn long(r: &mut Random, length: usize) -> String {
     // an even number of hexadecimal digits behind either
-    let start = keyed(if length.is_multiple_of(2) { "up,1,K,K,07,0c000000" } else { "up,01,K,K,07,0c000000" });
+    let starts = match r.below(4) {
+        0 => ["sealupframe,1,", "sealupframe,01,"],
+        1 => ["openupframe,0,01,1,1,K,", "openupframe,0,1,1,1,K,"],
+        _ => ["up,1,K,K,07,0c000000", "up,01,K,K,07,0c000000"],
+    };
+    let start = keyed(starts[length % 2]);
     let padding = "0".repeat(length - start.len());
     start + &padding
 }
@@ -134,9 +175,12 @@ fn listing(r: &mut Random) -> String {
 /// A line that is no call, or that only just is one.
 pub fn odd_line(r: &mut Random) -> String {
     match r.below(20) {
-        0 => long(LINE),
-        1 => long(LINE + 1),
-        2 => long(LINE + 1 + r.below(20_000) as usize),
+        0 => long(r, LINE),
+        1 => long(r, LINE + 1),
+        2 => {
+            let more = r.below(20_000) as usize;
+            long(r, LINE + 1 + more)
+        }
         3..=6 => listing(r),
         7..=9 => keyed(r.pick(&FAR_NUMBERS)),
         10..=12 => keyed(r.pick(&OTHER_KEYS)),

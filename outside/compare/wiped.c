@@ -1,10 +1,13 @@
 /* What include/curlewreel.h says of the stack: no call goes deeper than CURLEWREEL_OCTETS_STACK, and curlewreel_wipe_stack leaves no key there. All
  * keys are of one octet, MARK, the message keys too, which HMAC mixes with two others; the words of SHA-1 behind each mixed block are as good as the
- * message key to whoever forges a digest, and are looked for too. The stack is filled before a call and looked through after it. */
+ * message key to whoever forges a digest, and are looked for too; so are the round keys of AES, from which the TEK can be had. The stack is filled before
+ * a call and looked through after it. */
 #include "../../examples/message_keys.h"
+#include "round_keys.h"
 #include <stdio.h>
 
 enum { MARK = 0xc7, INNER = MARK ^ 0x36, OUTER = MARK ^ 0x5c, FILL = 0x11, DEPTH = 64 * 1024, NEAR = 256, ADDRESS = 77, NO_KEY = 9 };
+enum { FRAME = 12 + 5 * 16 + 7, FIRST_ROUND = 8 }; /* the words before it are too plain to be told from other octets */
 
 static const curlewreel_settings settings = {.tek_life = 1800, .tek_grace = 300, .ak_life = 86400, .ak_grace = 300, .authorize = 10,
     .reauthorize = 10, .operational = 10, .rekey = 10, .reject = 60};
@@ -17,7 +20,9 @@ static uint8_t fields[CURLEWREEL_FIELDS], again[CURLEWREEL_OCTETS_ANSWER];
 static uint8_t tek[CURLEWREEL_OCTETS_TEK], vector[CURLEWREEL_OCTETS_VECTOR], invalid[CURLEWREEL_OCTETS_INVALID];
 static uint8_t key[CURLEWREEL_OCTETS_MESSAGE_KEY]; /* of both directions */
 static uint32_t mixed[2][SHA1_WORDS]; /* the words of SHA-1 behind HMAC's two blocks */
-static size_t came, deepest, words_left, wrong;
+static uint8_t frame[FRAME], sealed[FRAME], opened[FRAME];
+static uint32_t rounds[4][ROUND_WORDS]; /* the words of round keys, and mixed back; each in both orders of octets */
+static size_t came, deepest, words_left, rounds_left, wrong;
 
 /* Each call in a frame of its own, so that what it leaves is below that of `tried`. */
 #define CALL(name, call) __attribute__((noinline)) static void name(void) { call; }
@@ -57,6 +62,23 @@ CALL(modem_no_key, curlewreel_modem_opening c = curlewreel_modem_open(m, CURLEWR
     vector, 16, up, sizeof up); m = c.modem; came = c.count;
     wrong += c.number != CURLEWREEL_NO_KEY_FOR_FRAME || came == 0 || up[0] != CURLEWREEL_MESSAGE_KEY_REQUEST)
 
+/* Frames sealed and opened here, each with the key that the end seals with; both ends hold it. */
+CALL(headend_seal_frame, wrong += curlewreel_headend_seal_frame(h, records, CURLEWREEL_RECORDS, ADDRESS, 1, frame, FRAME, sealed,
+    FRAME).number != 0)
+CALL(headend_open_frame, curlewreel_headend_opening c = curlewreel_headend_open_frame(h, records, CURLEWREEL_RECORDS, CURLEWREEL_UP, ADDRESS, 1,
+    1, sealed, FRAME, key, sizeof key, opened, FRAME, invalid, sizeof invalid); h = c.headend;
+    wrong += c.number != 0 || memcmp(opened, frame, FRAME) != 0)
+CALL(modem_seal_frame, wrong += curlewreel_modem_seal_frame(m, 1, frame, FRAME, sealed, FRAME).number != 0)
+CALL(modem_open_frame, curlewreel_modem_opening c = curlewreel_modem_open_frame(m, CURLEWREEL_DOWN, ADDRESS, 1, 0, sealed, FRAME, key,
+    sizeof key, opened, FRAME, up, sizeof up); m = c.modem; wrong += c.number != 0 || memcmp(opened, frame, FRAME) != 0)
+/* Refused, with what goes out. */
+CALL(headend_frame_no_key, curlewreel_headend_opening c = curlewreel_headend_open_frame(h, records, CURLEWREEL_RECORDS, CURLEWREEL_UP, ADDRESS, 1,
+    NO_KEY, sealed, FRAME, key, sizeof key, opened, FRAME, down, sizeof down); h = c.headend; came = c.count;
+    wrong += c.number != CURLEWREEL_NO_KEY_FOR_FRAME || came == 0 || down[0] != CURLEWREEL_MESSAGE_TEK_INVALID)
+CALL(modem_frame_no_key, curlewreel_modem_opening c = curlewreel_modem_open_frame(m, CURLEWREEL_DOWN, ADDRESS, 1, NO_KEY, sealed, FRAME, key,
+    sizeof key, opened, FRAME, up, sizeof up); m = c.modem; came = c.count;
+    wrong += c.number != CURLEWREEL_NO_KEY_FOR_FRAME || came == 0 || up[0] != CURLEWREEL_MESSAGE_KEY_REQUEST)
+
 /* The octet so far below a place. */
 static volatile uint8_t *below(uintptr_t top, size_t depth) { return (volatile uint8_t *)(top - depth); }
 
@@ -83,6 +105,34 @@ static size_t words(uintptr_t top) {
     return found;
 }
 
+/* How many words of round keys there are. */
+static size_t round_words(uintptr_t top) {
+    size_t found = 0;
+    for (size_t at = NEAR; at < DEPTH; at++) {
+        uint32_t word = (uint32_t)*below(top, at) << 24 | (uint32_t)*below(top, at - 1) << 16 | (uint32_t)*below(top, at - 2) << 8 | *below(top, at - 3);
+        if (word == FILL * 0x01010101u) continue;
+        for (size_t kind = 0; kind < 4; kind++)
+            for (size_t i = FIRST_ROUND; i < ROUND_WORDS; i++) found += word == rounds[kind][i];
+    }
+    return found;
+}
+
+/* The words of the round keys of a TEK whose octets are MARK. */
+static void words_of_rounds(void) {
+    uint8_t words[ROUND_WORDS][4], back[4], tek_of_marks[16];
+    memset(tek_of_marks, MARK, sizeof tek_of_marks);
+    expanded(words, tek_of_marks);
+    for (size_t i = 0; i < ROUND_WORDS; i++) {
+        mixed_back(back, words[i]);
+        for (int j = 0; j < 4; j++) {
+            rounds[0][i] = rounds[0][i] << 8 | words[i][j];
+            rounds[1][i] = rounds[1][i] << 8 | words[i][3 - j];
+            rounds[2][i] = rounds[2][i] << 8 | back[j];
+            rounds[3][i] = rounds[3][i] << 8 | back[3 - j];
+        }
+    }
+}
+
 /* A call, how deep it goes, and how many keys it leaves before and after the wiping. */
 __attribute__((noinline)) static size_t tried(void (*call)(void)) {
     volatile uint8_t here = 0;
@@ -93,8 +143,9 @@ __attribute__((noinline)) static size_t tried(void (*call)(void)) {
     while (depth > NEAR && *below(top, depth) == FILL) depth--;
     size_t left = marks(top);
     words_left += words(top);
+    rounds_left += round_words(top);
     curlewreel_wipe_stack();
-    wrong += marks(top) + words(top);
+    wrong += marks(top) + words(top) + round_words(top);
     if (depth > deepest) deepest = depth;
     return left;
 }
@@ -115,6 +166,8 @@ int main(void) {
     memset(key, MARK, sizeof key);
     words_of(mixed[0], 0x36);
     words_of(mixed[1], 0x5c);
+    words_of_rounds();
+    for (size_t i = 0; i < FRAME; i++) frame[i] = (uint8_t)(3 * i + 1);
     left += tried(headend_new) + tried(headend_list) + tried(modem_new) + tried(modem_established);
     message = up + CURLEWREEL_OCTETS_HEAD; /* behind the Authentication Information */
     left += tried(headend_receive) + tried(modem_receive);
@@ -127,21 +180,24 @@ int main(void) {
     }
     wrong += fields[CURLEWREEL_FIELD_DIGEST_HOLDS] != CURLEWREEL_DIGEST_YES;
     left += tried(headend_seal) + tried(headend_open) + tried(modem_seal) + tried(modem_open);
+    wrong += rounds_left; /* none so far: what is found below is of the cipher */
+    left += tried(headend_seal_frame) + tried(modem_open_frame) + tried(modem_seal_frame) + tried(headend_open_frame);
     message = up;
     left += tried(headend_no_key) + tried(read_again) + tried(write_again) + tried(modem_receive); /* the modem asks for its pair */
     left += tried(headend_receive) + tried(modem_receive);
     left += tried(modem_no_key) + tried(headend_receive) + tried(modem_receive);
+    left += tried(headend_frame_no_key) + tried(modem_frame_no_key) + tried(headend_receive) + tried(modem_receive);
     left += tried(modem_reauth);
     message = up;
     left += tried(headend_receive) + tried(modem_receive); /* the machines go on: the deepest call */
     left += tried(headend_clock) + tried(modem_clock);
 
-    if (wrong > 0 || left == 0 || words_left == 0 || deepest > CURLEWREEL_OCTETS_STACK) {
-        printf("outside: stack: %zu octets at the deepest of %d, %zu keys and %zu words of HMAC left by calls, %zu wrong answers or keys not wiped\n",
-               deepest, CURLEWREEL_OCTETS_STACK, left, words_left, wrong);
+    if (wrong > 0 || left == 0 || words_left == 0 || rounds_left == 0 || deepest > CURLEWREEL_OCTETS_STACK) {
+        printf("outside: stack: %zu octets at the deepest of %d, %zu keys, %zu words of HMAC and %zu of round keys left by calls, %zu wrong answers or "
+               "keys not wiped\n", deepest, CURLEWREEL_OCTETS_STACK, left, words_left, rounds_left, wrong);
         return 1;
     }
-    printf("outside: stack, %zu octets at the deepest of %d; %zu copies of keys and %zu words of HMAC left by calls, none after the wiping\n",
-           deepest, CURLEWREEL_OCTETS_STACK, left, words_left);
+    printf("outside: stack, %zu octets at the deepest of %d; %zu copies of keys, %zu words of HMAC and %zu of round keys left by calls, none after the "
+           "wiping\n", deepest, CURLEWREEL_OCTETS_STACK, left, words_left, rounds_left);
     return 0;
 }

@@ -8,6 +8,18 @@ pub type Sealed = Result<(u8, Vec<u8>, Vec<u8>), u8>;
 /// What opening gives: TEK and vector; or the refusal's number and, on 13, what goes out.
 pub type Opened = Result<(Vec<u8>, Vec<u8>), (u8, Vec<u8>)>;
 
+/// What sealing of a frame's octets gives: the key's number and the sealed frame; or the refusal's number.
+pub type SealedFrame = Result<(u8, Vec<u8>), u8>;
+
+/// What opening of a frame's octets gives: the opened frame; or the refusal's number and, on 13, what goes out.
+pub type OpenedFrame = Result<Vec<u8>, (u8, Vec<u8>)>;
+
+/// The key that opens and its width; or the refusal's number and, on 13, what goes out.
+pub type Opener = Result<(Held, usize), (u8, Vec<u8>)>;
+
+/// The refusal of a frame with fewer octets than stay clear (document 02, M-103).
+pub const SHORT_FRAME: u8 = 15;
+
 /// A key that an end holds; octets past the width are zero.
 #[derive(Clone, Copy, PartialEq, Eq, Debug, Default)]
 pub struct Held {

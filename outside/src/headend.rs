@@ -2,7 +2,7 @@
 
 use crate::association::{Entry, Record};
 use crate::digest::KEY;
-use crate::frame::{Held, Opened, Sealed};
+use crate::frame::{Held, Opened, Opener, Sealed};
 use crate::message::{read, write, Descriptor, End, Fields, Params};
 use crate::settings::{address_fits, said_fits, width, Settings, LAST_SECOND};
 
@@ -167,7 +167,7 @@ impl HeadEnd {
     }
 
     /// The record of a SAID that is this modem's.
-    fn association(&self, address: u64, said: u64) -> Option<&Record> {
+    pub(crate) fn association(&self, address: u64, said: u64) -> Option<&Record> {
         let entry = self.entry(address)?;
         let listed = entry.saids.iter().any(|s| u64::from(s.0) == said);
         self.records.iter().find(|r| listed && u64::from(r.said) == said)
@@ -191,13 +191,19 @@ impl HeadEnd {
         if write_key.len() != KEY {
             return Err((2, vec![]));
         }
+        let (key, width) = self.opener(address, said, number, write_key, |_| true)?;
+        Ok(key.octets(width))
+    }
+
+    /// Questions 10 and 13 of an opening, and what it counts: the key that opens and its width. `takes` asks more of a SAID's record.
+    pub(crate) fn opener(&mut self, address: u64, said: u64, number: u64, write_key: &[u8], takes: fn(&Record) -> bool) -> Opener {
         let clock = self.clock;
-        let Some(r) = self.association(address, said) else {
+        let Some(r) = self.association(address, said).filter(|r| takes(r)) else {
             self.refused = self.refused.saturating_add(1);
             return Err((10, vec![]));
         };
-        let opener = [&r.older, &r.newer].into_iter().find(|k| k.opens(clock, number));
-        let Some(found) = opener.map(|k| k.octets(width(u64::from(r.suite)))) else {
+        let opener = [r.older, r.newer].into_iter().find(|k| k.opens(clock, number));
+        let Some(found) = opener.map(|k| (k, width(u64::from(r.suite)))) else {
             self.refused = self.refused.saturating_add(1);
             return Err((13, self.tek_invalid(address, said, write_key)));
         };

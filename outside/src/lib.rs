@@ -1,8 +1,11 @@
 //! An outside implementation of the key engine's rules (document 01), for comparison.
+pub mod aes;
 pub mod association;
 pub mod attributes;
+pub mod cipher;
 pub mod digest;
 pub mod frame;
+pub mod frames;
 pub mod headend;
 pub mod limits;
 pub mod machines;
@@ -17,6 +20,8 @@ pub mod slot;
 mod ahead_tests;
 #[cfg(test)]
 mod both;
+#[cfg(test)]
+mod frames_tests;
 #[cfg(test)]
 mod identifier_tests;
 #[cfg(test)]

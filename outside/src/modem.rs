@@ -1,7 +1,7 @@
 //! The modem (document 01, "Modem: authorization machine", "Modem: TEK machine").
 
 use crate::digest::KEY;
-use crate::frame::{Held, Opened, Sealed};
+use crate::frame::{Held, Opened, Opener, Sealed};
 use crate::machines::{next, AUTHORIZATION, TEK};
 use crate::message::{read, End, Fields, Params};
 use crate::sent::{Sent, NO_KEY};
@@ -153,7 +153,7 @@ impl Modem {
         Ok(out.octets)
     }
 
-    fn slot(&self, said: u64) -> Option<usize> {
+    pub(crate) fn slot(&self, said: u64) -> Option<usize> {
         self.slots.iter().position(|s| u64::from(s.said) == said)
     }
 
@@ -270,24 +270,25 @@ impl Modem {
         if write_key.len() != KEY {
             return Err((2, vec![]));
         }
-        let Some(i) = self.slot(said).filter(|_| address == self.address) else {
+        let (key, width) = self.opener(address, said, number, write_key, |_| true)?;
+        Ok(key.octets(width))
+    }
+
+    /// Questions 10 and 13 of an opening, and what it counts: the key that opens and its width. `takes` asks more of a SAID's slot.
+    pub(crate) fn opener(&mut self, address: u64, said: u64, number: u64, write_key: &[u8], takes: fn(&Slot) -> bool) -> Opener {
+        let Some(i) = self.slot(said).filter(|i| address == self.address && takes(&self.slots[*i])) else {
             self.refused = self.refused.saturating_add(1);
             return Err((10, vec![]));
         };
         let s = &self.slots[i];
-        let held: Vec<Held> = s.keys.iter().flat_map(|k| [k.0, k.1]).collect();
-        match held.iter().find(|k| k.opens(self.clock, number)) {
-            Some(k) => {
-                let found = k.octets(s.width());
-                self.taken = self.taken.saturating_add(1);
-                Ok(found)
-            }
-            None => {
-                self.refused = self.refused.saturating_add(1);
-                let mut out = Sent::new(write_key);
-                self.tek(i, 5, &mut out);
-                Err((13, out.octets))
-            }
-        }
+        let held = s.keys.and_then(|k| [k.0, k.1].into_iter().find(|k| k.opens(self.clock, number)));
+        let Some(found) = held.map(|k| (k, s.width())) else {
+            self.refused = self.refused.saturating_add(1);
+            let mut out = Sent::new(write_key);
+            self.tek(i, 5, &mut out);
+            return Err((13, out.octets));
+        };
+        self.taken = self.taken.saturating_add(1);
+        Ok(found)
     }
 }

@@ -1,6 +1,6 @@
 //! Replay: calls in text, answers in text.
 
-use crate::frame::{Opened, Sealed};
+use crate::frame::{Opened, OpenedFrame, Sealed, SealedFrame};
 use crate::headend::HeadEnd;
 use crate::modem::Modem;
 use crate::settings::Settings;
@@ -72,6 +72,18 @@ fn opened(answer: Opened) -> String {
     }
 }
 
+fn sealed_frame(answer: SealedFrame) -> String {
+    answer.map_or_else(|n| n.to_string(), |(key, frame)| format!("0,{key},{}", hex(&frame)))
+}
+
+fn opened_frame(answer: OpenedFrame) -> String {
+    match answer {
+        Err((n, _)) if n != 13 => n.to_string(),
+        Ok(frame) => format!("0,{}", hex(&frame)),
+        Err((_, out)) => format!("13,{}", hex(&out)),
+    }
+}
+
 /// Both ends.
 #[derive(Clone)]
 pub struct Ends {
@@ -122,6 +134,19 @@ impl Ends {
             (b"opendown", 5) => {
                 let (n, write_key) = (numbers(&rest[..4])?, octets(rest[4])?);
                 Some(opened(self.modem.open(n[0], n[1], n[2], n[3], &write_key)))
+            }
+            (b"sealdownframe", 3) => {
+                let (n, frame) = (numbers(&rest[..2])?, octets(rest[2])?);
+                Some(sealed_frame(self.head.seal_frame(n[0], n[1], &frame)))
+            }
+            (b"sealupframe", 2) => Some(sealed_frame(self.modem.seal_frame(number(rest[0])?, &octets(rest[1])?))),
+            (b"openupframe", 6) => {
+                let (n, write_key, frame) = (numbers(&rest[..4])?, octets(rest[4])?, octets(rest[5])?);
+                Some(opened_frame(self.head.open_frame(n[0], n[1], n[2], n[3], &write_key, &frame)))
+            }
+            (b"opendownframe", 6) => {
+                let (n, write_key, frame) = (numbers(&rest[..4])?, octets(rest[4])?, octets(rest[5])?);
+                Some(opened_frame(self.modem.open_frame(n[0], n[1], n[2], n[3], &write_key, &frame)))
             }
             _ => None,
         }

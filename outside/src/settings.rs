@@ -45,6 +45,9 @@ pub fn said_fits(said: u64) -> bool {
     said <= 16_383
 }
 
+/// The suite whose frames are sealed and opened here: AES of 128 bits in CBC mode.
+pub const AES: u16 = 768;
+
 /// Octets of a TEK and of a vector under a suite; 0 for a suite that is not known.
 pub fn width(suite: u64) -> usize {
     match suite {

@@ -63,7 +63,8 @@ impl Walk {
         let wrong = dice.roll(8) == 0;
         let (up, down) = if wrong { (DOWN, UP) } else { (UP, DOWN) };
         let (said, number) = (1 + dice.roll(3), dice.roll(16));
-        let (number, sent) = match dice.roll(12) {
+        let frame = vec![number as u8; dice.roll(60) as usize];
+        let (number, sent) = match dice.roll(15) {
             0 => flat(self.m.established()),
             1 if dice.roll(9) == 0 => flat(self.m.reauth()),
             2 | 3 => {
@@ -85,7 +86,19 @@ impl Walk {
                 }
                 Ok(_) => flat(self.m.seal(said).map(|_| vec![])),
             },
-            _ => self.m.open(1, 5, said, number, &up).err().unwrap_or_default(),
+            11 => self.m.open(1, 5, said, number, &up).err().unwrap_or_default(),
+            12 => match self.h.open_frame(0, 5, said, number, &down, &frame) {
+                Err((n, out)) => {
+                    keep(&mut self.downs, &out);
+                    (n, vec![])
+                }
+                Ok(_) => flat(self.m.seal_frame(said, &frame).map(|_| vec![])),
+            },
+            13 => match self.h.seal_frame(5, said, &frame) {
+                Err(n) => (n, vec![]),
+                Ok((key, there)) => self.m.open_frame(1, 5, said, key.into(), &up, &there).err().unwrap_or_default(),
+            },
+            _ => self.m.open_frame(1, 5, said, number, &up, &frame).err().unwrap_or_default(),
         };
         keep(&mut self.ups, &sent);
         number
@@ -110,7 +123,7 @@ fn walk() {
         reject: 60,
     };
     let mut dice = Dice(1);
-    let mut seen = [0; 15];
+    let mut seen = [0; 16];
     for _ in 0..20 {
         let mut walk = Walk::new(settings);
         for _ in 0..3_000 {
@@ -120,7 +133,7 @@ fn walk() {
             assert!(walk.h.records.iter().all(|r| r.older.deadline <= walk.h.clock + settings.half()));
         }
     }
-    for n in [0, 6, 7, 8, 9, 10, 11, 12, 13, 14] {
+    for n in [0, 6, 7, 8, 9, 10, 11, 12, 13, 14, 15] {
         assert!(seen[n] > 0, "{n} not seen: {seen:?}");
     }
 }

@@ -25,3 +25,11 @@ thin("replay_apply", "held", "seal_held", [], [LENT % "array-shown, array-home, 
 OPEN = "openOf h records direction address said number (write .now) (length (tek .now)) (length (vector .now)) (length (invalid .now))"
 thin("replay_apply", "held", "open_held", [], [LENT % "array-shown, array-home, Part", OCTETS, "use Rattle.headend_frames.specs.FrameCalled.{openCalled}", "use Rattle.headend_frames.specs.FrameCalls.{openOf}"],
      right=("openCalled (%s)" % OPEN,) + written("(%s)" % OPEN, KEY + [("invalid", ".invalid")]))
+
+SEAL_FRAME = "sealFrameOf h records address said (octets .now) (length (sealed .now))"
+thin("replay_apply", "held", "seal_frame_held", [], [LENT % "array-shown, array-home, Part", OCTETS, "use Rattle.frame_octets.specs.Framed.{sealFrameCalled}", "use Rattle.headend_frames.specs.FrameCalls.{sealFrameOf}"],
+     right=("sealFrameCalled (%s)" % SEAL_FRAME,) + written("(%s)" % SEAL_FRAME, [("sealed", ".octets")]))
+
+OPEN_FRAME = "openFrameOf h records direction address said number (octets .now) (write .now) (length (opened .now)) (length (invalid .now))"
+thin("replay_apply", "held", "open_frame_held", [], [LENT % "array-shown, array-home, Part", OCTETS, "use Rattle.headend_frames.specs.OctetFrames.{openFrameCalled}", "use Rattle.headend_frames.specs.FrameCalls.{openFrameOf}"],
+     right=("openFrameCalled (%s)" % OPEN_FRAME,) + written("(%s)" % OPEN_FRAME, [("opened", ".octets"), ("invalid", ".opened .invalid")]))

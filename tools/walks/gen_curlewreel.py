@@ -24,6 +24,14 @@ OPEN = "openOf h (records .now) direction address said {tekno} (write-key .now) 
 relay("open", ("openCalled (%s)" % OPEN,) + written("(%s)" % OPEN, KEY + [("invalid", ".invalid")]), "headEndOpening {got}",
       [OCTETS, "use Rattle.headend_frames.specs.FrameCalls.{openOf}", "use Rattle.headend_frames.specs.FrameCalled.{openCalled}", HEAD % "headEndOpening"],
       [("tekno", "record {{ 0 = number }}")])
+FRAME = "use Rattle.headend_frames.specs.FrameCalls.{%s}"
+SEAL = "sealFrameOf h (records .now) address said (octets .now) (length (sealed .now))"
+relay("seal_frame", ("sealFrameCalled (%s)" % SEAL,) + written("(%s)" % SEAL, [("sealed", ".octets")]), "frameSealed {got}",
+      [OCTETS, "use Rattle.frame_octets.specs.Framed.{sealFrameCalled}", FRAME % "sealFrameOf", "use Rattle.curlewreel.specs.ModemCalls.{frameSealed}"])
+OPEN = "openFrameOf h (records .now) direction address said {tekno} (octets .now) (write-key .now) (length (opened .now)) (length (invalid .now))"
+relay("open_frame", ("openFrameCalled (%s)" % OPEN,) + written("(%s)" % OPEN, [("opened", ".octets"), ("invalid", ".opened .invalid")]), "headEndOpening {got}",
+      [OCTETS, FRAME % "openFrameOf", "use Rattle.headend_frames.specs.OctetFrames.{openFrameCalled}", HEAD % "headEndOpening"],
+      [("tekno", "record {{ 0 = number }}")])
 RECEIVE = "h (records .now) address (read-key .now) (write-key .now) (message .now) (auth-key .now) (length (out .now))"
 relay("receive", ("receiveOf " + RECEIVE, "overlay (out .now) (receiveOctets %s)" % RECEIVE), "headEndCall {got}",
       [OCTETS, CALLS % "receiveOf, receiveOctets", HEAD % "headEndCall"])

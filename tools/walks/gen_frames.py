@@ -1,4 +1,4 @@
-"""The walks of headend_calls::frames::seal and headend_calls::frames::open."""
+"""The walks of headend_calls::frames: seal, open, seal_frame, open_frame."""
 from thin import thin
 
 
@@ -16,3 +16,7 @@ frame("seal", "sealedWith h {bad} (length (records .now)) {found} address said (
       ["use Rattle.headend_frames.specs.Frames.{sealedWith}", "use Rattle.key_traffic.specs.Sealing.{sealCalled}"], KEY)
 frame("open", "openedWith h {bad} (length (records .now)) {found} direction address said number (write-key .now) (length (tek .now)) (length (vector .now)) (length (invalid .now))",
       "openCalled", ["use Rattle.headend_frames.specs.Frames.{openedWith}", "use Rattle.headend_frames.specs.FrameCalled.{openCalled}"], KEY + [("invalid", ".invalid")])
+frame("seal_frame", "sealedFrameWith h {bad} (length (records .now)) {found} address said (octets .now) (length (sealed .now))", "sealFrameCalled",
+      ["use Rattle.headend_frames.specs.OctetFrames.{sealedFrameWith}", "use Rattle.frame_octets.specs.Framed.{sealFrameCalled}"], [("sealed", ".octets")])
+frame("open_frame", "openedFrameWith h {bad} (length (records .now)) {found} direction address said number (octets .now) (write-key .now) (length (opened .now)) (length (invalid .now))",
+      "openFrameCalled", ["use Rattle.headend_frames.specs.OctetFrames.{openedFrameWith, openFrameCalled}"], [("opened", ".octets"), ("invalid", ".opened .invalid")])

@@ -17,12 +17,15 @@ use Rattle.headend_frames.specs.FrameCalled as HeadCalled
 use Rattle.modem_calls.specs.Calls.{establishedOf, reauthOf, clockOf, receiveOf}
 use Rattle.modem_frames.specs.Frames.{sealOf, openOf}
 use Rattle.modem_frames.specs.FrameCalled.{openCalled}
+use Rattle.modem_frames.specs.OctetFrames.{sealFrameOf, openFrameOf, openFrameCalled}
+use Rattle.frame_octets.specs.Framed.{sealFrameCalled}
+use Rattle.headend_frames.specs.OctetFrames as HeadOctets
 use Rattle.curlewreel.specs.declared.modem_values.ModemCall.{ModemCall}
 use Rattle.curlewreel.specs.declared.modem_values.ModemOpening.{ModemOpening}
 use Rattle.curlewreel.specs.declared.modem_values.FrameSealed.{FrameSealed}
 use Rattle.curlewreel.specs.declared.headend_values.HeadEndCall.{HeadEndCall}
 use Rattle.curlewreel.specs.declared.headend_values.HeadEndOpening.{HeadEndOpening}
-use Rattle.curlewreel.specs.ModemCalls.{modemCall, frameSealed, modemOpening, ModemGives, FrameSeals, ModemOpens}
+use Rattle.curlewreel.specs.ModemCalls.{modemCall, frameSealed, modemOpening, ModemGives, FrameSeals, ModemOpens, OctetsSeal, ModemOpensOctets}
 use Rattle.curlewreel.specs.HeadEndCalls as C
 
 -- ---- the modem
@@ -60,6 +63,19 @@ module _ (m : Modem) (said : ℕ) (tek vector tek-after vector-after : List ℕ)
       × (out-after ≡ overlay out (openOf m direction address said number write (length tek) (length vector) (length out) .sent))
   open-says direction address number write out out-after r h = h
 
+module _ (m : Modem) (said : ℕ) (frame : List ℕ) where
+  pub seal-frame-says : (sealed sealed-after : List ℕ) (r : FrameSealed) → OctetsSeal (sealFrameOf m said frame (length sealed)) sealed r sealed-after
+      → (r ≡ frameSealed (sealFrameCalled (sealFrameOf m said frame (length sealed))))
+      × (sealed-after ≡ overlay sealed (sealFrameOf m said frame (length sealed) .octets))
+  seal-frame-says sealed sealed-after r h = h
+
+  pub open-frame-says : (direction address : ℕ) (number : TekNumber) (write opened out opened-after out-after : List ℕ) (r : ModemOpening)
+      → ModemOpensOctets (openFrameOf m direction address said number frame write (length opened) (length out)) opened out r opened-after out-after
+      → (r ≡ modemOpening (openFrameCalled (openFrameOf m direction address said number frame write (length opened) (length out))))
+      × (opened-after ≡ overlay opened (openFrameOf m direction address said number frame write (length opened) (length out) .octets))
+      × (out-after ≡ overlay out (openFrameOf m direction address said number frame write (length opened) (length out) .opened .sent))
+  open-frame-says direction address number write opened out opened-after out-after r h = h
+
 -- ---- the head-end
 
 module _ (h : HeadEnd) (records records-after : List Assoc) (material : List ℕ) (r : HeadEndCall) where
@@ -93,3 +109,17 @@ module _ (h : HeadEnd) (records : List Assoc) (address : ℕ) where
       × (vector-after ≡ overlay vector (HeadFrames.openOf h records direction address said number write (length tek) (length vector) (length invalid) .out .vector))
       × (invalid-after ≡ overlay invalid (HeadFrames.openOf h records direction address said number write (length tek) (length vector) (length invalid) .invalid))
   head-open-says direction said number write tek vector invalid tek-after vector-after invalid-after r k = k
+
+  pub head-seal-frame-says : (said : ℕ) (frame sealed sealed-after : List ℕ) (r : FrameSealed)
+      → OctetsSeal (HeadFrames.sealFrameOf h records address said frame (length sealed)) sealed r sealed-after
+      → (r ≡ frameSealed (sealFrameCalled (HeadFrames.sealFrameOf h records address said frame (length sealed))))
+      × (sealed-after ≡ overlay sealed (HeadFrames.sealFrameOf h records address said frame (length sealed) .octets))
+  head-seal-frame-says said frame sealed sealed-after r k = k
+
+  pub head-open-frame-says : (direction said : ℕ) (number : TekNumber) (frame write opened invalid opened-after invalid-after : List ℕ) (r : HeadEndOpening)
+      → C.HeadEndOpensOctets (HeadFrames.openFrameOf h records direction address said number frame write (length opened) (length invalid)) opened invalid r
+      opened-after invalid-after
+      → (r ≡ C.headEndOpening (HeadOctets.openFrameCalled (HeadFrames.openFrameOf h records direction address said number frame write (length opened) (length invalid))))
+      × (opened-after ≡ overlay opened (HeadFrames.openFrameOf h records direction address said number frame write (length opened) (length invalid) .octets))
+      × (invalid-after ≡ overlay invalid (HeadFrames.openFrameOf h records direction address said number frame write (length opened) (length invalid) .opened .invalid))
+  head-open-frame-says direction said number frame write opened invalid opened-after invalid-after r k = k

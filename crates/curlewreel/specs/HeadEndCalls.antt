@@ -5,6 +5,7 @@ use mathlib.Core.List.{List}
 use Prim.Native.Nat.{ℕ}
 use Rattle.headend_frames.specs.FrameCalled.{openCalled}
 use Rattle.headend_frames.specs.Frames.{HeadOpened}
+use Rattle.headend_frames.specs.OctetFrames.{HeadOpenedFrame, openFrameCalled}
 use Rattle.key_association.specs.declared.listing.Listing.{Listing}
 use Rattle.key_traffic.specs.Octets.{overlay}
 use Rattle.questions.specs.Refusal.{answerNumber}
@@ -46,3 +47,10 @@ HeadEndOpens g tek vector invalid r tek-after vector-after invalid-after =
     × (tek-after ≡ overlay tek (g .out .tek))
     × (vector-after ≡ overlay vector (g .out .vector))
     × (invalid-after ≡ overlay invalid (g .invalid))
+
+-- A frame's octets opened
+abbrev pub HeadEndOpensOctets : HeadOpenedFrame → List ℕ → List ℕ → HeadEndOpening → List ℕ → List ℕ → Type 0
+HeadEndOpensOctets g opened invalid r opened-after invalid-after =
+    (r ≡ headEndOpening (openFrameCalled g))
+    × (opened-after ≡ overlay opened (g .octets))
+    × (invalid-after ≡ overlay invalid (g .opened .invalid))

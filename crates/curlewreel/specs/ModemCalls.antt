@@ -4,6 +4,8 @@ use mathlib.Core.List.{List}
 use Prim.Native.Nat.{ℕ}
 use Rattle.modem_frames.specs.FrameCalled.{openCalled}
 use Rattle.modem_frames.specs.Frames.{ModemOpened}
+use Rattle.modem_frames.specs.OctetFrames.{ModemOpenedFrame, openFrameCalled}
+use Rattle.frame_octets.specs.Framed.{SealedFrame, sealFrameCalled}
 use Rattle.key_traffic.specs.Sealing.{Sealed, sealCalled}
 use Rattle.key_traffic.specs.Octets.{overlay}
 use Rattle.key_traffic.specs.declared.sealing.SealedCall.{SealedCall}
@@ -44,3 +46,15 @@ ModemOpens g tek vector out r tek-after vector-after out-after =
     × (tek-after ≡ overlay tek (g .out .tek))
     × (vector-after ≡ overlay vector (g .out .vector))
     × (out-after ≡ overlay out (g .sent))
+
+-- A frame's octets, sealed at either end, and opened at the modem
+abbrev pub OctetsSeal : SealedFrame → List ℕ → FrameSealed → List ℕ → Type 0
+OctetsSeal s sealed r sealed-after =
+    (r ≡ frameSealed (sealFrameCalled s))
+    × (sealed-after ≡ overlay sealed (s .octets))
+
+abbrev pub ModemOpensOctets : ModemOpenedFrame → List ℕ → List ℕ → ModemOpening → List ℕ → List ℕ → Type 0
+ModemOpensOctets g opened out r opened-after out-after =
+    (r ≡ modemOpening (openFrameCalled g))
+    × (opened-after ≡ overlay opened (g .octets))
+    × (out-after ≡ overlay out (g .opened .sent))

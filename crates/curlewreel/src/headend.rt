@@ -3,9 +3,9 @@
 ghost use mathlib.Core.Path.{_≡_};
 ghost use lib.ListN.{length};
 ghost use Rattle.headend_calls.specs.Calls.{newOf};
-ghost use Rattle.headend_frames.specs.FrameCalls.{sealOf, openOf};
-ghost use Rattle.curlewreel.specs.ModemCalls.{FrameSeals};
-ghost use Rattle.curlewreel.specs.HeadEndCalls.{headEndCall, HeadEndLists, HeadEndClocks, HeadEndReceives, HeadEndOpens};
+ghost use Rattle.headend_frames.specs.FrameCalls.{sealOf, openOf, sealFrameOf, openFrameOf};
+ghost use Rattle.curlewreel.specs.ModemCalls.{FrameSeals, OctetsSeal};
+ghost use Rattle.curlewreel.specs.HeadEndCalls.{headEndCall, HeadEndLists, HeadEndClocks, HeadEndReceives, HeadEndOpens, HeadEndOpensOctets};
 use crate::headend_values::HeadEndCall;
 use crate::headend_values::HeadEndOpening;
 use crate::headend_values::headend_call;
@@ -18,7 +18,9 @@ use headend_calls::calls::list;
 use headend_calls::calls::new;
 use headend_calls::calls::receive;
 use headend_calls::frames::open;
+use headend_calls::frames::open_frame;
 use headend_calls::frames::seal;
+use headend_calls::frames::seal_frame;
 use headend_state::state::HeadEnd;
 use key_association::listing::Listing;
 use key_association::record::Assoc;
@@ -135,6 +137,57 @@ pub extern "C" fn curlewreel_headend_open(
         write_key,
         tek,
         vector,
+        invalid,
+    );
+    headend_opening(c)
+}
+
+// The octets of a frame for that modem, sealed with the older key of a SAID, at the front of `sealed` (document 02, M-103).
+#[no_mangle]
+pub extern "C" fn curlewreel_headend_seal_frame(
+    h: HeadEnd,
+    records: &[Assoc],
+    address: u64,
+    said: u16,
+    octets: &[u8],
+    sealed: &mut [u8],
+) -> FrameSealed
+    ensures { λ r. ⌜ OctetsSeal (sealFrameOf h (now (records .entry)) address said (now (octets .entry)) (length (now (sealed .entry))))
+        (now (sealed .entry)) r (now (sealed .exit)) ⌝ }
+{
+    let c = seal_frame(h, records, address, said, octets, sealed);
+    frame_sealed(c)
+}
+
+// The octets of a frame from that modem, opened with the held key of its number, at the front of `opened`; where there is none, a TEK Invalid may go to
+// `invalid`, with its digest under `write_key`.
+#[no_mangle]
+pub extern "C" fn curlewreel_headend_open_frame(
+    h: HeadEnd,
+    records: &[Assoc],
+    direction: u8,
+    address: u64,
+    said: u16,
+    number: u8,
+    octets: &[u8],
+    write_key: &[u8],
+    opened: &mut [u8],
+    invalid: &mut [u8],
+) -> HeadEndOpening
+    ensures { λ r. ⌜ HeadEndOpensOctets (openFrameOf h (now (records .entry)) direction address said (record { 0 = number }) (now (octets .entry)) (now («write_key» .entry)) (length (now (opened .entry))) (length (now (invalid .entry))))
+        (now (opened .entry)) (now (invalid .entry)) r (now (opened .exit)) (now (invalid .exit)) ⌝ }
+{
+    let n = tek_number(number);
+    let c = open_frame(
+        h,
+        records,
+        direction,
+        address,
+        said,
+        n,
+        octets,
+        write_key,
+        opened,
         invalid,
     );
     headend_opening(c)

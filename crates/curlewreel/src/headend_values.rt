@@ -29,8 +29,8 @@ pub fn headend_call(c: Called) -> HeadEndCall
     }
 }
 
-// What opening at the head-end answers: document 01's number, how many octets of TEK and of vector were written, how many of a TEK
-// Invalid, and the head-end after it.
+// What opening at the head-end answers: the number, how many octets of TEK and of vector, or of the frame, were written, how many of a TEK Invalid, and
+// the head-end after it.
 #[repr(C)]
 pub struct HeadEndOpening {
     pub number: u8,

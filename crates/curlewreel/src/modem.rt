@@ -3,7 +3,8 @@ ghost use mathlib.Core.Path.{_≡_};
 ghost use lib.ListN.{length};
 ghost use Rattle.modem_calls.specs.Calls.{newOf, establishedOf, reauthOf, clockOf, receiveOf};
 ghost use Rattle.modem_frames.specs.Frames.{sealOf, openOf};
-ghost use Rattle.curlewreel.specs.ModemCalls.{modemCall, ModemGives, FrameSeals, ModemOpens};
+ghost use Rattle.modem_frames.specs.OctetFrames.{sealFrameOf, openFrameOf};
+ghost use Rattle.curlewreel.specs.ModemCalls.{modemCall, ModemGives, FrameSeals, ModemOpens, OctetsSeal, ModemOpensOctets};
 use crate::modem_values::FrameSealed;
 use crate::modem_values::ModemCall;
 use crate::modem_values::ModemOpening;
@@ -18,6 +19,8 @@ use modem_calls::calls::reauth;
 use modem_calls::calls::receive;
 use modem_frames::frames::open;
 use modem_frames::frames::seal;
+use modem_frames::octets::open_frame;
+use modem_frames::octets::seal_frame;
 use modem_steps::state::Modem;
 use questions::settings::Settings;
 
@@ -121,6 +124,52 @@ pub extern "C" fn curlewreel_modem_open(
         write_key,
         tek,
         vector,
+        out,
+    );
+    modem_opening(c)
+}
+
+// A frame's octets sealed with the newer key of a SAID, at the front of `sealed` (document 02, M-103).
+#[no_mangle]
+pub extern "C" fn curlewreel_modem_seal_frame(
+    m: Modem,
+    said: u16,
+    frame: &[u8],
+    sealed: &mut [u8],
+) -> FrameSealed
+    ensures { λ r. ⌜ OctetsSeal (sealFrameOf m said (now (frame .entry)) (length (now (sealed .entry))))
+        (now (sealed .entry)) r (now (sealed .exit)) ⌝ }
+{
+    let c = seal_frame(m, said, frame, sealed);
+    frame_sealed(c)
+}
+
+// A frame's octets opened with the held key of its number, at the front of `opened`; where there is none, what the SAID's machine sends goes to `out`,
+// with its digest under `write_key`.
+#[no_mangle]
+pub extern "C" fn curlewreel_modem_open_frame(
+    m: Modem,
+    direction: u8,
+    address: u64,
+    said: u16,
+    number: u8,
+    frame: &[u8],
+    write_key: &[u8],
+    opened: &mut [u8],
+    out: &mut [u8],
+) -> ModemOpening
+    ensures { λ r. ⌜ ModemOpensOctets (openFrameOf m direction address said (record { 0 = number }) (now (frame .entry)) (now («write_key» .entry)) (length (now (opened .entry))) (length (now (out .entry))))
+        (now (opened .entry)) (now (out .entry)) r (now (opened .exit)) (now (out .exit)) ⌝ }
+{
+    let c = open_frame(
+        m,
+        direction,
+        address,
+        said,
+        TekNumber(number),
+        frame,
+        write_key,
+        opened,
         out,
     );
     modem_opening(c)

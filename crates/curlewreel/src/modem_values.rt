@@ -29,7 +29,7 @@ pub fn modem_call(c: Called) -> ModemCall
     }
 }
 
-// What sealing answers: document 01's number, the key's number, and how many octets of TEK and of vector were written.
+// What sealing answers: the number, the key's number, and how many octets of TEK and of vector, or of the frame, were written.
 #[repr(C)]
 pub struct FrameSealed {
     pub number: u8,
@@ -51,7 +51,7 @@ pub fn frame_sealed(c: SealedCall) -> FrameSealed
     }
 }
 
-// What opening at the modem answers: document 01's number, how many octets of TEK and of vector were written, how many of messages, and
+// What opening at the modem answers: the number, how many octets of TEK and of vector, or of the frame, were written, how many of messages, and
 // the modem after it.
 #[repr(C)]
 pub struct ModemOpening {

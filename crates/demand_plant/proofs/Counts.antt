@@ -14,6 +14,7 @@ use Rattle.questions.specs.Refusal.{answerNumber}
 use Rattle.key_traffic.specs.Sealing.{oneMore}
 use Rattle.key_association.specs.declared.record.Assoc.{Assoc}
 use Rattle.key_association.specs.declared.listing.Listing.{Listing}
+use Rattle.key_association.specs.declared.search.Found.{Found}
 use Rattle.key_association.specs.declared.search.Probe.the-variants.{OfSaid}
 use Rattle.key_records.specs.Records.{firstOf, lookupOf}
 use Rattle.questions.proofs.AnswerLaws.{number-done}
@@ -24,14 +25,17 @@ use Rattle.headend_steps.specs.Listing.{listAnswer, listFor, listCalled}
 use Rattle.headend_steps.specs.Clock.{clockAnswer, clockFor, clockCalled}
 use Rattle.headend_frames.specs.FrameQuestions as HQ
 use Rattle.headend_frames.specs.Frames as HF
+use Rattle.headend_frames.specs.OctetFrames as HO
 use Rattle.headend_calls.specs.Calls as Head
 use Rattle.headend_frames.specs.FrameCalls as HeadFrames
 use Rattle.modem_frames.specs.Frames as ModemFrames
 use Rattle.modem_steps.specs.declared.state.Modem.{Modem}
 use Rattle.modem_calls.proofs.PairLaws.{established-keeps, reauth-keeps, receive-keeps, clock-keeps}
-use Rattle.modem_frames.proofs.FrameLaws.{Counted, opened-counts}
+use Rattle.modem_frames.specs.OctetFrames as ModemOctets
+use Rattle.modem_frames.proofs.OpenedLaws.{Counted}
+use Rattle.modem_frames.proofs.FrameKept.{open-counts, open-frame-counts}
 use Rattle.message_digest.specs.Digest.{messageKeyFits}
-use Rattle.demand_plant.specs.World.{World, Step, list, clock, established, reauth, up, down, sealDown, sealUp, openUp, openDown, clockAnswers, clockedBy}
+use Rattle.demand_plant.specs.World.{World, Step, list, clock, established, reauth, up, down, sealDown, sealUp, openUp, openDown, sealDownFrame, sealUpFrame, openUpFrame, openDownFrame, clockAnswers, clockedBy}
 use Rattle.demand_plant.specs.Run.{Did, didOf, after, worldAfter, traceFrom}
 use Rattle.demand_plant.specs.Tally.{countIf, hits, tally, isTaken, isCountedRefused, moreBy}
 use Rattle.demand_plant.proofs.EntryLogs.{receive-state}
@@ -106,17 +110,27 @@ open-head n h = go (eqb n 0) (isCountedRefused n) (not-both n)
     go false true apart = (refl, refl)
     go false false apart = (refl, refl)
 
+head-opened : (h : HeadEnd) (s : Found) (address said : ℕ) (number : TekNumber) (write : List ℕ) (a : Answer)
+    → CountedBy (answerNumber (HF.openedFor a h s address said number write .answer)) (h .taken) (h .refused)
+    (HF.openedFor a h s address said number write .state .taken) (HF.openedFor a h s address said number write .state .refused)
+head-opened h s address said number write Done = open-head 0 h
+head-opened h s address said number write (Refused r) = open-head (answerNumber (Refused r)) h
+
 head-opening : (h : HeadEnd) (xs : List Assoc) (direction address said : ℕ) (number : TekNumber) (write : List ℕ) (tek vector lent : ℕ)
     → CountedBy (answerNumber (HeadFrames.openOf h xs direction address said number write tek vector lent .answer)) (h .taken) (h .refused)
     (HeadFrames.openOf h xs direction address said number write tek vector lent .state .taken) (HeadFrames.openOf h xs direction address said number write tek vector lent .state .refused)
 unfolding HF.openedWith
 head-opening h xs direction address said number write tek vector lent =
-    go (HQ.openAnswer h (firstOf (outOfLimits h) xs) (length xs) (lookupOf (OfSaid said) xs) direction address said number (messageKeyFits write) tek vector lent)
-  where
-    go : (a : Answer) → CountedBy (answerNumber (HF.openedFor a h (lookupOf (OfSaid said) xs) address said number write .answer)) (h .taken) (h .refused)
-        (HF.openedFor a h (lookupOf (OfSaid said) xs) address said number write .state .taken) (HF.openedFor a h (lookupOf (OfSaid said) xs) address said number write .state .refused)
-    go Done = open-head 0 h
-    go (Refused r) = open-head (answerNumber (Refused r)) h
+    head-opened h (lookupOf (OfSaid said) xs) address said number write
+    (HQ.openAnswer h (firstOf (outOfLimits h) xs) (length xs) (lookupOf (OfSaid said) xs) direction address said number (messageKeyFits write) tek vector lent)
+
+head-opening-frame : (h : HeadEnd) (xs : List Assoc) (direction address said : ℕ) (number : TekNumber) (frame write : List ℕ) (lent invalid : ℕ)
+    → CountedBy (answerNumber (HeadFrames.openFrameOf h xs direction address said number frame write lent invalid .opened .answer)) (h .taken) (h .refused)
+    (HeadFrames.openFrameOf h xs direction address said number frame write lent invalid .opened .state .taken) (HeadFrames.openFrameOf h xs direction address said number frame write lent invalid .opened .state .refused)
+unfolding HO.openedFrameWith
+head-opening-frame h xs direction address said number frame write lent invalid =
+    head-opened h (lookupOf (OfSaid said) xs) address said number write
+    (HO.openFrameAnswer h (firstOf (outOfLimits h) xs) (length xs) (lookupOf (OfSaid said) xs) direction address said number (messageKeyFits write) (length frame) lent invalid)
 
 modem-opening : (m : Modem) (o : ModemFrames.ModemOpened) → Counted m o → CountedBy (answerNumber (o .answer)) (m .taken) (m .refused) (o .modem .taken) (o .modem .refused)
 modem-opening m o c = go (eqb n 0) (eqb n 10) (eqb n 13) refl refl refl
@@ -156,7 +170,15 @@ step-counts w (openUp direction address said number write tek vector lent) =
     let p = head-opening (w .head) (w .records) direction address said number write tek vector lent in
     (p .0, p .1, refl, refl)
 step-counts w (openDown direction address said number write tek vector lent) =
-    let q = modem-opening (w .modem) (ModemFrames.openOf (w .modem) direction address said number write tek vector lent) (opened-counts (w .modem) direction address said number write tek vector lent) in
+    let q = modem-opening (w .modem) (ModemFrames.openOf (w .modem) direction address said number write tek vector lent) (open-counts (w .modem) direction address said number write tek vector lent) in
+    (refl, refl, q .0, q .1)
+step-counts w (sealDownFrame address said frame lent) = (refl, refl, refl, refl)
+step-counts w (sealUpFrame said frame lent) = (refl, refl, refl, refl)
+step-counts w (openUpFrame direction address said number frame write lent invalid) =
+    let p = head-opening-frame (w .head) (w .records) direction address said number frame write lent invalid in
+    (p .0, p .1, refl, refl)
+step-counts w (openDownFrame direction address said number frame write lent messages) =
+    let q = modem-opening (w .modem) (ModemOctets.openFrameOf (w .modem) direction address said number frame write lent messages .opened) (open-frame-counts (w .modem) direction address said number frame write lent messages) in
     (refl, refl, q .0, q .1)
 
 -- ---- and every list

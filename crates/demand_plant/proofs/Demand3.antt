@@ -9,13 +9,14 @@ use Rattle.questions.specs.declared.settings.Settings.{Settings}
 use Rattle.questions.specs.Settings.{settingsFit}
 use Rattle.key_association.specs.declared.record.Assoc.{Assoc}
 use Rattle.key_traffic.specs.Addresses.{addressFits}
-use Rattle.demand_plant.specs.World.{World, fresh, Step, list, clock, established, reauth, up, down, sealDown, sealUp, openUp, openDown}
+use Rattle.demand_plant.specs.World.{World, fresh, Step, list, clock, established, reauth, up, down, sealDown, sealUp, openUp, openDown, sealDownFrame, sealUpFrame, openUpFrame, openDownFrame}
 use Rattle.demand_plant.specs.Run.{Did, didOf, after, Allowed, Counts}
 use Rattle.demand_plant.specs.Demand3.{Demand3, Sent, sentBy, StepListed, AllStepsListed, Listed}
 use Rattle.demand_plant.proofs.Theorem.{frames-agree}
 use Rattle.demand_plant.proofs.Struck.{keys-alone}
 use Rattle.demand_plant.proofs.Records.{records-show}
 use Rattle.demand_plant.proofs.Seconds.{seconds-given}
+use Rattle.demand_plant.proofs.OctetsBack.{all-here, octets-back}
 
 -- ---- a list as document 01 tells it counts
 listed-allowed : (D F : ℕ) (sent : List Sent) (earlier : List Did) (w : World) (s : Step) → StepListed D F sent earlier w s → Allowed D earlier w s
@@ -30,6 +31,10 @@ listed-allowed D F sent earlier w (sealDown address said tek vector) t = tt
 listed-allowed D F sent earlier w (sealUp said tek vector) t = tt
 listed-allowed D F sent earlier w (openUp direction address said number write tek vector lent) t = tt
 listed-allowed D F sent earlier w (openDown direction address said number write tek vector lent) t = tt
+listed-allowed D F sent earlier w (sealDownFrame address said frame lent) t = tt
+listed-allowed D F sent earlier w (sealUpFrame said frame lent) t = tt
+listed-allowed D F sent earlier w (openUpFrame direction address said number frame write lent invalid) t = tt
+listed-allowed D F sent earlier w (openDownFrame direction address said number frame write lent messages) t = tt
 
 listed-counts : (D F : ℕ) (ss : List Step) (sent : List Sent) (earlier : List Did) (w : World) → AllStepsListed D F sent earlier w ss → Counts D earlier w ss
 listed-counts D F [] sent earlier w t = tt
@@ -52,6 +57,8 @@ module _ (settings : Settings) (address said : ℕ) (records : List Assoc) (fits
         made = keys-alone settings address said records fits address-fits said-fits D ss counts;
         shown = λ n. records-show settings address said records fits address-fits said-fits D (take n ss) (prefix-counts D ss n [] (fresh settings address said records) counts);
         seconds = seconds-given settings address said records ss;
+        here = all-here ss (fresh settings address said records);
+        octets = octets-back settings address said records fits address-fits said-fits D F bound ss counts;
       }
 
   -- and so for document 01's own

@@ -45,7 +45,7 @@ long-each a b c key t v n e =
     (eqb-true (length key) 20 (e₀ .0), leb-true a t (e₀ .1), leb-true b v (e₁ .1), leb-true c n (e₂ .1))
 
 -- of two copies, the one that is meant
-of-pair : {D : ℕ} {gs : List Log} (said suite : ℕ) (older newer k : TrafficKey) → (k ≡ older) ⊎ (k ≡ newer) → Copied D gs said suite older → Copied D gs said suite newer → Copied D gs said suite k
+pub of-pair : {D : ℕ} {gs : List Log} (said suite : ℕ) (older newer k : TrafficKey) → (k ≡ older) ⊎ (k ≡ newer) → Copied D gs said suite older → Copied D gs said suite newer → Copied D gs said suite k
 of-pair {D} {gs} said suite older newer k (inl e) p q = subst (Copied D gs said suite) (sym e) p
 of-pair {D} {gs} said suite older newer k (inr e) p q = subst (Copied D gs said suite) (sym e) q
 

@@ -18,9 +18,9 @@ use Rattle.headend_limits.specs.Search.{halfIn}
 use Rattle.headend_calls.specs.Calls as Head
 use Rattle.headend_calls.proofs.StateLaws.{by-answer, list-state, list-stays, clock-state, receive-base}
 use Rattle.headend_calls.proofs.SecondLaws.{clock-forward, clock-still, list-front}
-use Rattle.headend_calls.proofs.FrameAnswers.{open-same}
+use Rattle.headend_calls.proofs.FrameAnswers.{open-same, open-frame-same}
 use Rattle.modem_calls.specs.Calls as Mdm
-use Rattle.demand_plant.specs.World.{World, Step, list, clock, established, reauth, up, down, sealDown, sealUp, openUp, openDown, clockedBy, clockAnswers}
+use Rattle.demand_plant.specs.World.{World, Step, list, clock, established, reauth, up, down, sealDown, sealUp, openUp, openDown, sealDownFrame, sealUpFrame, openUpFrame, openDownFrame, clockedBy, clockAnswers}
 use Rattle.demand_plant.specs.Run.{after, worldAfter}
 
 -- The records in use before are there after, as they were
@@ -92,6 +92,10 @@ step-forward (sealDown address said tek vector) w = omega arith
 step-forward (sealUp said tek vector) w = omega arith
 step-forward (openUp direction address said number write tek vector lent) w = omega (arith, open-same (w .head) (w .records) direction address said number write tek vector lent .clock)
 step-forward (openDown direction address said number write tek vector lent) w = omega arith
+step-forward (sealDownFrame address said frame lent) w = omega arith
+step-forward (sealUpFrame said frame lent) w = omega arith
+step-forward (openUpFrame direction address said number frame write lent invalid) w = omega (arith, open-frame-same (w .head) (w .records) direction address said number frame write lent invalid .clock)
+step-forward (openDownFrame direction address said number frame write lent messages) w = omega arith
 
 step-keeps : (s : Step) (w : World) → after w s .head .clock ≡ w .head .clock → Keeps w (after w s)
 step-keeps (list address allowed l m) w still = list-keeps w address allowed l m
@@ -106,6 +110,11 @@ step-keeps (sealUp said tek vector) w still = keeps-all w w refl refl
 step-keeps (openUp direction address said number write tek vector lent) w still =
     keeps-all w (after w (openUp direction address said number write tek vector lent)) (open-same (w .head) (w .records) direction address said number write tek vector lent .used) refl
 step-keeps (openDown direction address said number write tek vector lent) w still = keeps-all w (after w (openDown direction address said number write tek vector lent)) refl refl
+step-keeps (sealDownFrame address said frame lent) w still = keeps-all w w refl refl
+step-keeps (sealUpFrame said frame lent) w still = keeps-all w w refl refl
+step-keeps (openUpFrame direction address said number frame write lent invalid) w still =
+    keeps-all w (after w (openUpFrame direction address said number frame write lent invalid)) (open-frame-same (w .head) (w .records) direction address said number frame write lent invalid .used) refl
+step-keeps (openDownFrame direction address said number frame write lent messages) w still = keeps-all w (after w (openDownFrame direction address said number frame write lent messages)) refl refl
 
 -- ---- a list of them
 run-forward : (ss : List Step) (w : World) → w .head .clock ≤ worldAfter w ss .head .clock

@@ -35,19 +35,21 @@ use Rattle.headend_calls.proofs.Refused.{list-refused-same}
 use Rattle.headend_calls.proofs.StateLaws.{by-answer, list-state, clock-state, receive-base}
 use Rattle.headend_calls.proofs.SecondLaws.{clock-forward}
 use Rattle.headend_calls.proofs.FrameLaws as HeadLaws
-use Rattle.headend_calls.proofs.FrameAnswers.{up-reply, reply-read, invalid-not-reply, open-same}
+use Rattle.headend_calls.proofs.FrameAnswers.{up-reply, reply-read, invalid-not-reply, invalid-frame-not-reply, open-same, open-frame-same}
+use Rattle.headend_calls.proofs.OctetFrameLaws.{sealed-alike}
+use Rattle.frame_octets.specs.Framed.{SealedFrame}
 use Rattle.modem_calls.specs.Calls as Mdm
 use Rattle.modem_calls.proofs.AnswerLaws.{read-fields}
 use Rattle.modem_calls.proofs.PairLaws.{clock-pairs, clock-done}
 use Rattle.modem_frames.proofs.FrameKept.{clock-fits}
-use Rattle.demand_plant.specs.World.{World, Step, list, clock, up, sealDown, openUp, Frame, frameIf, oneIf, clockedBy, clockAnswers}
+use Rattle.demand_plant.specs.World.{World, Step, list, clock, up, sealDown, openUp, sealDownFrame, openUpFrame, Carried, keyGiven, octetsGiven, Frame, frameIf, oneIf, clockedBy, clockAnswers}
 use Rattle.demand_plant.specs.Run.{Did, didOf}
 use Rattle.demand_plant.specs.KeysMade.{acceptedIf, clockIf}
 use Rattle.demand_plant.proofs.LogLaws.{Log, logsListed, logsTo, grows-same, grows-listed, grows-clocked}
 use Rattle.demand_plant.proofs.MadeRun.{logsBy}
 use Rattle.demand_plant.proofs.Copies.{PairCopied, ParamsSent, ReplySent, FrameOk}
 use Rattle.demand_plant.proofs.HeadOk.{log-at, log-limits, near, shaped-at}
-use Rattle.demand_plant.proofs.HeadSteps.{list-ok, list-refused-ok, clock-ok, receive-ok, open-ok}
+use Rattle.demand_plant.proofs.HeadSteps.{list-ok, list-refused-ok, clock-ok, receive-ok, open-ok, open-frame-ok}
 use Rattle.demand_plant.proofs.Inv.{Inv, Next, next-by, next-to, pairs-grow, nothing-put, nothing-sealed}
 
 -- ---- a key of a log, sent at second r before its deadline
@@ -150,9 +152,9 @@ module _ {D half own : ℕ} {w : World} {tr : List Did} {gs : List Log} (v : Inv
     abbrev s : Sealed
     s = HeadFrames.sealOf (w .head) (w .records) address said tek vector
 
-    sealed-ok : HeadLaws.SealFacts (w .head) (w .records) address said tek vector
-        → FrameOk D half own gs (w .head .clock) (record { direction = 1; address = address; said = said; number = s .number; out = s .out })
-    sealed-ok q =
+    sealed-ok : (carried : Carried) → HeadLaws.SealFacts (w .head) (w .records) address said tek vector
+        → FrameOk D half own gs (w .head .clock) (record { direction = 1; address = address; said = said; number = s .number; out = s .out; carried = carried })
+    sealed-ok carried q =
         let r = log-at (v .head) (q .place) (q .inside) in
         let line = r .log .line in
         let good = v .head .good (r .log) (r .there) in
@@ -169,29 +171,54 @@ module _ {D half own : ℕ} {w : World} {tr : List Did} {gs : List Log} (v : Inv
           address-small = q .address-fits;
         }
 
-    frames-ok : (a : Answer) → s .answer ≡ a → (f : Frame) → List·Memᴰ f (frameIf a 1 address said s) → FrameOk D half own gs (w .head .clock) f
-    frames-ok Done e f (List·Memᴰ·head q) = subst (FrameOk D half own gs (w .head .clock)) (sym q) (sealed-ok (HeadLaws.seal-facts (w .head) (w .records) address said tek vector e))
-    frames-ok Done e f (List·Memᴰ·tail i) = elim i [ ]
-    frames-ok (Refused r) e f i = elim i [ ]
+    frames-ok : (carried : Carried) (a : Answer) → s .answer ≡ a → (f : Frame) → List·Memᴰ f (frameIf a 1 address said s carried) → FrameOk D half own gs (w .head .clock) f
+    frames-ok carried Done e f (List·Memᴰ·head q) = subst (FrameOk D half own gs (w .head .clock)) (sym q) (sealed-ok carried (HeadLaws.seal-facts (w .head) (w .records) address said tek vector e))
+    frames-ok carried Done e f (List·Memᴰ·tail i) = elim i [ ]
+    frames-ok carried (Refused r) e f i = elim i [ ]
 
     pub seal-down-next : Next D half own w tr gs (sealDown address said tek vector)
     seal-down-next =
         next-by v (sealDown address said tek vector) gs (grows-same gs) refl (v .head) (v .fits) (v .own-is) (v .clocks) (v .pairs)
-        (nothing-put gs (didOf w (sealDown address said tek vector)) refl) (frames-ok (s .answer) refl) (omega arith)
+        (nothing-put gs (didOf w (sealDown address said tek vector)) refl) (frames-ok keyGiven (s .answer) refl) (omega arith)
+
+  -- a sealing of octets, with the same key
+  module _ (address said : ℕ) (frame : List ℕ) (lent : ℕ) where
+    abbrev z : SealedFrame
+    z = HeadFrames.sealFrameOf (w .head) (w .records) address said frame lent
+
+    octets-ok : (a : Answer) → z .sealed .answer ≡ a → (f : Frame) → List·Memᴰ f (frameIf a 1 address said (z .sealed) (octetsGiven frame (z .octets))) → FrameOk D half own gs (w .head .clock) f
+    octets-ok Done e f i =
+        let same = sealed-alike (w .head) (w .records) address said frame lent e in
+        frames-ok address said 16 16 (octetsGiven frame (z .octets)) Done (ap (λ (x : Sealed). x .answer) (sym same) ∙ e) f
+        (subst (λ (x : Sealed). List·Memᴰ f (frameIf Done 1 address said x (octetsGiven frame (z .octets)))) same i)
+    octets-ok (Refused r) e f i = elim i [ ]
+
+    pub seal-down-frame-next : Next D half own w tr gs (sealDownFrame address said frame lent)
+    seal-down-frame-next =
+        next-by v (sealDownFrame address said frame lent) gs (grows-same gs) refl (v .head) (v .fits) (v .own-is) (v .clocks) (v .pairs)
+        (nothing-put gs (didOf w (sealDownFrame address said frame lent)) refl) (octets-ok (z .sealed .answer) refl) (omega arith)
 
   -- ---- an opening: a TEK Invalid is no Key Reply
-  module _ (direction address said : ℕ) (number : TekNumber) (write : List ℕ) (tek vector lent : ℕ) where
-    pub open-up-next : Next D half own w tr gs (openUp direction address said number write tek vector lent)
-    open-up-next =
-        let step = openUp direction address said number write tek vector lent in
-        let same = open-same (w .head) (w .records) direction address said number write tek vector lent in
-        next-by v step gs (grows-same gs) refl (open-ok (v .head) direction address said number write tek vector lent) (v .fits) (v .own-is) (v .clocks ∙ sym (same .clock)) (v .pairs)
-        (λ o i code. absurd (no-reply (eqb address (w .modem .address)) (HeadFrames.openOf (w .head) (w .records) direction address said number write tek vector lent .invalid) o i code
-        (invalid-not-reply (w .head) (w .records) direction address said number write tek vector lent)))
-        (nothing-sealed D half own gs (didOf w step) refl) (omega (arith, same .clock))
-      where
-        no-reply : (b : Bool) (bs o : List ℕ) → List·Memᴰ o (oneIf b bs) → codeOf o ≡ 8 → (codeOf bs ≡ 8 → ⊥) → ⊥
-        no-reply true [] o i code ok = elim i [ ]
-        no-reply true (x ∷ bs) o (List·Memᴰ·head e) code ok = ok (ap codeOf (sym e) ∙ code)
-        no-reply true (x ∷ bs) o (List·Memᴰ·tail j) code ok = elim j [ ]
-        no-reply false bs o i code ok = elim i [ ]
+  no-reply : (b : Bool) (bs o : List ℕ) → List·Memᴰ o (oneIf b bs) → codeOf o ≡ 8 → (codeOf bs ≡ 8 → ⊥) → ⊥
+  no-reply true [] o i code ok = elim i [ ]
+  no-reply true (x ∷ bs) o (List·Memᴰ·head e) code ok = ok (ap codeOf (sym e) ∙ code)
+  no-reply true (x ∷ bs) o (List·Memᴰ·tail j) code ok = elim j [ ]
+  no-reply false bs o i code ok = elim i [ ]
+
+  pub open-up-next : (direction address said : ℕ) (number : TekNumber) (write : List ℕ) (tek vector lent : ℕ) → Next D half own w tr gs (openUp direction address said number write tek vector lent)
+  open-up-next direction address said number write tek vector lent =
+      let step = openUp direction address said number write tek vector lent in
+      let same = open-same (w .head) (w .records) direction address said number write tek vector lent in
+      next-by v step gs (grows-same gs) refl (open-ok (v .head) direction address said number write tek vector lent) (v .fits) (v .own-is) (v .clocks ∙ sym (same .clock)) (v .pairs)
+      (λ o i code. absurd (no-reply (eqb address (w .modem .address)) (HeadFrames.openOf (w .head) (w .records) direction address said number write tek vector lent .invalid) o i code
+      (invalid-not-reply (w .head) (w .records) direction address said number write tek vector lent)))
+      (nothing-sealed D half own gs (didOf w step) refl) (omega (arith, same .clock))
+
+  pub open-up-frame-next : (direction address said : ℕ) (number : TekNumber) (frame write : List ℕ) (lent invalid : ℕ) → Next D half own w tr gs (openUpFrame direction address said number frame write lent invalid)
+  open-up-frame-next direction address said number frame write lent invalid =
+      let step = openUpFrame direction address said number frame write lent invalid in
+      let same = open-frame-same (w .head) (w .records) direction address said number frame write lent invalid in
+      next-by v step gs (grows-same gs) refl (open-frame-ok (v .head) direction address said number frame write lent invalid) (v .fits) (v .own-is) (v .clocks ∙ sym (same .clock)) (v .pairs)
+      (λ o i code. absurd (no-reply (eqb address (w .modem .address)) (HeadFrames.openFrameOf (w .head) (w .records) direction address said number frame write lent invalid .opened .invalid) o i code
+      (invalid-frame-not-reply (w .head) (w .records) direction address said number frame write lent invalid)))
+      (nothing-sealed D half own gs (didOf w step) refl) (omega (arith, same .clock))

@@ -28,14 +28,14 @@ use Rattle.headend_limits.proofs.ListingLaws.{listing-facts, unnamed}
 use Rattle.headend_calls.specs.Calls.{newOf, listOf, listRecords, clockOf, clockRecords, receiveOf}
 use Rattle.headend_calls.specs.Minting.{namedPairs}
 use Rattle.headend_calls.specs.Within.{Within}
-use Rattle.headend_frames.specs.FrameCalls.{openOf}
+use Rattle.headend_frames.specs.FrameCalls.{openOf, openFrameOf}
 use Rattle.headend_calls.proofs.CallsLaws.{AskedList, list-met}
 use Rattle.headend_calls.proofs.KeptLimits.{new-within, list-within, clock-within, receive-within}
 use Rattle.headend_calls.proofs.NearLaws.{fresh-all-near, base-near, list-near, clock-near, receive-near}
 use Rattle.headend_calls.proofs.StateLaws.{SameBase, list-state, clock-state}
 use Rattle.headend_calls.proofs.MintLaws.{Shows, shows-same, list-shows, clock-shows, receive-shows, fresh-shows}
 use Rattle.headend_calls.proofs.Refused.{list-refused-same}
-use Rattle.headend_calls.proofs.FrameAnswers.{same-within, open-same}
+use Rattle.headend_calls.proofs.FrameAnswers.{SameButCounts, same-within, open-same, open-frame-same}
 use Rattle.demand_plant.proofs.LogLaws.{Log, generationsIn, logsTo, logsListed, lines-listed, lines-to, listed-good, to-good}
 use Rattle.demand_plant.proofs.SaidLaws.{saidsIn, Different, each-append, different-append, saids-clocked, saids-listed}
 use Rattle.demand_plant.proofs.EntryLogs.{Logged, EntriesLogged, log-listed, log-right, log-clocked, new-logged, grown-entries, rekeyed-logged, receive-state}
@@ -148,10 +148,9 @@ module _ {half : ℕ} {h : HeadEnd} {xs : List Assoc} {gs : List Log} (ok : Head
         sixteen = p .1;
       }
 
-  pub open-ok : (direction address said : ℕ) (number : TekNumber) (write : List ℕ) (tek vector lent : ℕ) → HeadOk half (openOf h xs direction address said number write tek vector lent .state) xs gs
-  open-ok direction address said number write tek vector lent =
-      let o = openOf h xs direction address said number write tek vector lent .state in
-      let same = open-same h xs direction address said number write tek vector lent in
+  -- an opening changes no more than the counts
+  counted-ok : (o : HeadEnd) → SameButCounts h o → HeadOk half o xs gs
+  counted-ok o same =
       let base : SameBase h o = record { settings = same .settings; clock = same .clock; used = same .used } in
       record {
         within = same-within h o same xs (ok .within);
@@ -163,3 +162,11 @@ module _ {half : ℕ} {h : HeadEnd} {xs : List Assoc} {gs : List Log} (ok : Head
         shaped = ok .shaped;
         sixteen = ap length (same .entries) ∙ ok .sixteen;
       }
+
+  pub open-ok : (direction address said : ℕ) (number : TekNumber) (write : List ℕ) (tek vector lent : ℕ) → HeadOk half (openOf h xs direction address said number write tek vector lent .state) xs gs
+  open-ok direction address said number write tek vector lent =
+      counted-ok (openOf h xs direction address said number write tek vector lent .state) (open-same h xs direction address said number write tek vector lent)
+
+  pub open-frame-ok : (direction address said : ℕ) (number : TekNumber) (frame write : List ℕ) (lent invalid : ℕ) → HeadOk half (openFrameOf h xs direction address said number frame write lent invalid .opened .state) xs gs
+  open-frame-ok direction address said number frame write lent invalid =
+      counted-ok (openFrameOf h xs direction address said number frame write lent invalid .opened .state) (open-frame-same h xs direction address said number frame write lent invalid)

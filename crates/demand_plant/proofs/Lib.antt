@@ -13,7 +13,9 @@ pub mod Inv
 pub mod ModemSteps
 pub mod HeadNext
 pub mod Frames
+pub mod OctetFrames
 pub mod Theorem
+pub mod OctetsBack
 pub mod Records
 pub mod Alike
 pub mod Struck

@@ -12,7 +12,7 @@ use Rattle.key_traffic.specs.Octets.{octetsOf}
 use Rattle.questions.proofs.ListLaws.{Each, each-nil, each-cons}
 use Rattle.key_traffic.proofs.OctetsLaws.{octets-length}
 use Rattle.key_association.specs.declared.listing.Listing.{Listing}
-use Rattle.key_association.specs.Made.{SaidSuite, Generations, mints, mintsBy}
+use Rattle.key_association.specs.Made.{Made, SaidSuite, Generations, madeAt, mints, mintsBy}
 use Rattle.headend_state.specs.Entries.{saidAt}
 use Rattle.headend_limits.proofs.ListingLaws.{ListingIn}
 use Rattle.headend_calls.specs.Minting.{pairAt, pairsTo}
@@ -24,26 +24,31 @@ use Rattle.demand_plant.proofs.HeadOk.{ShapedMade}
 sixteen-each : (m : List ℕ) (at w : ℕ) → (length (octetsOf m at w) ≡ 16) × (length (octetsOf m (at + 16) w) ≡ 16)
 sixteen-each m at w = (octets-length m at w, octets-length m (at + 16) w)
 
-module _ (half t : ℕ) (m : List ℕ) where
-  mints-shaped : (at : ℕ) (l : Generations) (b c : Bool) → Each ShapedMade (mintsBy b c half t m at l)
-  mints-shaped at l true c = each-nil ShapedMade
-  mints-shaped at l false true = each-cons ShapedMade (sixteen-each m at (widthOf (l .suite))) (each-nil ShapedMade)
-  mints-shaped at l false false =
-      each-cons ShapedMade (sixteen-each m at (widthOf (l .suite))) (each-cons ShapedMade (sixteen-each m (at + 32) (widthOf (l .suite))) (each-nil ShapedMade))
+-- what holds of each key made of a material holds of each that a call makes of it
+module _ (P : Made → Type 0) (half t : ℕ) (m : List ℕ) (made : (said suite generation second deadline at : ℕ) → P (madeAt said suite generation second deadline m at)) where
+  mints-each : (at : ℕ) (l : Generations) (b c : Bool) → Each P (mintsBy b c half t m at l)
+  mints-each at l true c = each-nil P
+  mints-each at l false true = each-cons P (made _ _ _ _ _ at) (each-nil P)
+  mints-each at l false false = each-cons P (made _ _ _ _ _ at) (each-cons P (made _ _ _ _ _ (at + 32)) (each-nil P))
 
+  pub clocked-each : (at : ℕ) (gs : List Log) → Each (λ (g : Log). Each P (g .made)) gs → Each (λ (g : Log). Each P (g .made)) (logsTo half t m at gs)
+  clocked-each at [] ok = each-nil _
+  clocked-each at (g ∷ gs) ok =
+      each-cons (λ (x : Log). Each P (x .made))
+      (each-append P (g .made) (mints half t m at (g .line)) (ok g (List·Memᴰ·head refl)) (mints-each at (g .line) (ltb t (g .line .older .deadline)) (ltb t (g .line .newer .deadline))))
+      (clocked-each (at + 64) gs (λ x i. ok x (List·Memᴰ·tail i)))
+
+  pub listed-each : (at : ℕ) (ss : List SaidSuite) → Each (λ (g : Log). Each P (g .made)) (logsListed half t m at ss)
+  listed-each at [] = each-nil _
+  listed-each at (s ∷ ss) =
+      each-cons (λ (x : Log). Each P (x .made)) (each-cons P (made _ _ _ _ _ at) (each-cons P (made _ _ _ _ _ (at + 32)) (each-nil P))) (listed-each (at + 64) ss)
+
+module _ (half t : ℕ) (m : List ℕ) where
   pub clocked-shaped : (at : ℕ) (gs : List Log) → Each (λ (g : Log). Each ShapedMade (g .made)) gs → Each (λ (g : Log). Each ShapedMade (g .made)) (logsTo half t m at gs)
-  clocked-shaped at [] ok = each-nil _
-  clocked-shaped at (g ∷ gs) ok =
-      each-cons (λ (x : Log). Each ShapedMade (x .made))
-      (each-append ShapedMade (g .made) (mints half t m at (g .line)) (ok g (List·Memᴰ·head refl)) (mints-shaped at (g .line) (ltb t (g .line .older .deadline)) (ltb t (g .line .newer .deadline))))
-      (clocked-shaped (at + 64) gs (λ x i. ok x (List·Memᴰ·tail i)))
+  clocked-shaped = clocked-each ShapedMade half t m (λ said suite generation second deadline at. sixteen-each m at (widthOf suite))
 
   pub listed-shaped : (at : ℕ) (ss : List SaidSuite) → Each (λ (g : Log). Each ShapedMade (g .made)) (logsListed half t m at ss)
-  listed-shaped at [] = each-nil _
-  listed-shaped at (s ∷ ss) =
-      each-cons (λ (x : Log). Each ShapedMade (x .made))
-      (each-cons ShapedMade (sixteen-each m at (widthOf (s .suite))) (each-cons ShapedMade (sixteen-each m (at + 32) (widthOf (s .suite))) (each-nil ShapedMade)))
-      (listed-shaped (at + 64) ss)
+  listed-shaped = listed-each ShapedMade half t m (λ said suite generation second deadline at. sixteen-each m at (widthOf suite))
 
 -- ---- the SAIDs that a listing names are different, and none of those that have a log
 abbrev pub namedTo : Listing → ℕ → List ℕ

@@ -25,9 +25,12 @@ use Rattle.modem_calls.specs.Calls as Mdm
 use Rattle.modem_frames.specs.Frames.{machineOf, sealOf}
 use Rattle.modem_calls.proofs.PairLaws.{KeyReplyTaken, replySlot, established-pairs, reauth-pairs, receive-pairs, established-keeps, reauth-keeps, receive-keeps}
 use Rattle.modem_frames.proofs.FrameLaws.{SealFacts, seal-facts}
-use Rattle.modem_frames.proofs.FrameKept.{open-pairs, open-keeps, open-fits, established-fits, reauth-fits, receive-fits}
+use Rattle.modem_frames.proofs.FrameKept.{open-pairs, open-keeps, open-fits, open-frame-pairs, open-frame-keeps, open-frame-fits, established-fits, reauth-fits, receive-fits}
 use Rattle.key_traffic.specs.Addresses.{addressFits}
-use Rattle.demand_plant.specs.World.{World, established, reauth, down, sealUp, openDown, Frame, frameIf}
+use Rattle.frame_octets.specs.Framed.{SealedFrame}
+use Rattle.modem_frames.specs.OctetFrames.{sealFrameOf}
+use Rattle.modem_frames.proofs.OctetLaws.{sealed-alike}
+use Rattle.demand_plant.specs.World.{World, established, reauth, down, sealUp, openDown, sealUpFrame, openDownFrame, Carried, keyGiven, octetsGiven, Frame, frameIf}
 use Rattle.demand_plant.specs.Run.{Did, didOf, Copy, Allowed}
 use Rattle.demand_plant.proofs.LogLaws.{Log, MadeIn, grows-same}
 use Rattle.demand_plant.proofs.Copies.{Copied, PairCopied, ParamsSent, FrameOk}
@@ -93,8 +96,9 @@ module _ {D half own : ℕ} {w : World} {tr : List Did} {gs : List Log} (v : Inv
     abbrev s : Sealed
     s = sealOf (w .modem) said tek vector
 
-    sealed-ok : SealFacts (w .modem) said tek vector → FrameOk D half own gs (w .head .clock) (record { direction = 0; address = w .modem .address; said = said; number = s .number; out = s .out })
-    sealed-ok q =
+    sealed-ok : (carried : Carried) → SealFacts (w .modem) said tek vector
+        → FrameOk D half own gs (w .head .clock) (record { direction = 0; address = w .modem .address; said = said; number = s .number; out = s .out; carried = carried })
+    sealed-ok carried q =
         let t = machineOf (w .modem) said in
         let c : Copied D gs (t .said) (t .suite) (t .pair .newer) = v .pairs _ (q .inside) (q .held) .1 in
         record {
@@ -110,15 +114,32 @@ module _ {D half own : ℕ} {w : World} {tr : List Did} {gs : List Log} (v : Inv
           address-small = subst (λ (a : ℕ). addressFits a ≡ true) (sym (v .own-is)) own-fits;
         }
 
-    frames-ok : (a : Answer) → s .answer ≡ a → (f : Frame) → List·Memᴰ f (frameIf a 0 (w .modem .address) said s) → FrameOk D half own gs (w .head .clock) f
-    frames-ok Done e f (List·Memᴰ·head q) = subst (FrameOk D half own gs (w .head .clock)) (sym q) (sealed-ok (seal-facts (w .modem) said tek vector e))
-    frames-ok Done e f (List·Memᴰ·tail i) = elim i [ ]
-    frames-ok (Refused r) e f i = elim i [ ]
+    frames-ok : (carried : Carried) (a : Answer) → s .answer ≡ a → (f : Frame) → List·Memᴰ f (frameIf a 0 (w .modem .address) said s carried) → FrameOk D half own gs (w .head .clock) f
+    frames-ok carried Done e f (List·Memᴰ·head q) = subst (FrameOk D half own gs (w .head .clock)) (sym q) (sealed-ok carried (seal-facts (w .modem) said tek vector e))
+    frames-ok carried Done e f (List·Memᴰ·tail i) = elim i [ ]
+    frames-ok carried (Refused r) e f i = elim i [ ]
 
     pub seal-up-next : Next D half own w tr gs (sealUp said tek vector)
     seal-up-next =
         next-by v (sealUp said tek vector) gs (grows-same gs) refl (v .head) (v .fits) (v .own-is) (v .clocks) (v .pairs)
-        (nothing-put gs (didOf w (sealUp said tek vector)) refl) (frames-ok (s .answer) refl) (omega arith)
+        (nothing-put gs (didOf w (sealUp said tek vector)) refl) (frames-ok keyGiven (s .answer) refl) (omega arith)
+
+  -- a sealing of octets, with the same key
+  module _ (own-fits : addressFits own ≡ true) (said : ℕ) (frame : List ℕ) (lent : ℕ) where
+    abbrev z : SealedFrame
+    z = sealFrameOf (w .modem) said frame lent
+
+    octets-ok : (a : Answer) → z .sealed .answer ≡ a → (f : Frame) → List·Memᴰ f (frameIf a 0 (w .modem .address) said (z .sealed) (octetsGiven frame (z .octets))) → FrameOk D half own gs (w .head .clock) f
+    octets-ok Done e f i =
+        let same = sealed-alike (w .modem) said frame lent e in
+        frames-ok own-fits said 16 16 (octetsGiven frame (z .octets)) Done (ap (λ (x : Sealed). x .answer) (sym same) ∙ e) f
+        (subst (λ (x : Sealed). List·Memᴰ f (frameIf Done 0 (w .modem .address) said x (octetsGiven frame (z .octets)))) same i)
+    octets-ok (Refused r) e f i = elim i [ ]
+
+    pub seal-up-frame-next : Next D half own w tr gs (sealUpFrame said frame lent)
+    seal-up-frame-next =
+        next-by v (sealUpFrame said frame lent) gs (grows-same gs) refl (v .head) (v .fits) (v .own-is) (v .clocks) (v .pairs)
+        (nothing-put gs (didOf w (sealUpFrame said frame lent)) refl) (octets-ok (z .sealed .answer) refl) (omega arith)
 
   -- ---- an opening
   pub open-down-next : (direction address said : ℕ) (number : TekNumber) (write : List ℕ) (tek vector lent : ℕ) → Next D half own w tr gs (openDown direction address said number write tek vector lent)
@@ -127,3 +148,10 @@ module _ {D half own : ℕ} {w : World} {tr : List Did} {gs : List Log} (v : Inv
       let same = open-keeps (w .modem) direction address said number write tek vector lent in
       next-by v step gs (grows-same gs) refl (v .head) (open-fits (w .modem) direction address said number write tek vector lent (v .fits)) (same .address ∙ v .own-is) (same .clock ∙ v .clocks)
       (open-pairs (w .modem) direction address said number write tek vector lent (PairCopied D gs) (v .pairs)) (nothing-put gs (didOf w step) refl) (nothing-sealed D half own gs (didOf w step) refl) (omega arith)
+
+  pub open-down-frame-next : (direction address said : ℕ) (number : TekNumber) (frame write : List ℕ) (lent messages : ℕ) → Next D half own w tr gs (openDownFrame direction address said number frame write lent messages)
+  open-down-frame-next direction address said number frame write lent messages =
+      let step = openDownFrame direction address said number frame write lent messages in
+      let same = open-frame-keeps (w .modem) direction address said number frame write lent messages in
+      next-by v step gs (grows-same gs) refl (v .head) (open-frame-fits (w .modem) direction address said number frame write lent messages (v .fits)) (same .address ∙ v .own-is) (same .clock ∙ v .clocks)
+      (open-frame-pairs (w .modem) direction address said number frame write lent messages (PairCopied D gs) (v .pairs)) (nothing-put gs (didOf w step) refl) (nothing-sealed D half own gs (didOf w step) refl) (omega arith)

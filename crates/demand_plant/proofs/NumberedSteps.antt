@@ -5,9 +5,11 @@ use mathlib.Core.List.{List, [], _∷_, List·Memᴰ·head, List·Memᴰ·tail}
 use Prim.Native.Nat.{ℕ}
 use native.Mathlib.Omega.{arith}
 use lib.Dec.{eqb}
+use lib.ListN.{length}
 use Rattle.questions.specs.declared.refusal.Answer.{Answer}
 use Rattle.questions.specs.declared.refusal.Answer.the-variants.{Done, Refused}
 use Rattle.questions.specs.Questions.{firstNo}
+use Rattle.questions.specs.Refusal.{numberOf, answerNumber}
 use Rattle.questions.proofs.ListLaws.{Each, each-nil, each-cons}
 use Rattle.questions.proofs.TestLaws.{both}
 use Rattle.key_traffic.specs.declared.numbers.TekNumber.{TekNumber}
@@ -35,9 +37,12 @@ use Rattle.modem_calls.proofs.CallLaws.{receive-asked}
 use Rattle.modem_calls.proofs.NoneDropped.{messagesOf}
 use Rattle.modem_calls.proofs.Numbered.{Numbered, Waits, Numbers, plain-numbers, deliver-numbers, clocked-numbers, received-numbers}
 use Rattle.modem_frames.specs.FrameRules.{withCounts, countedBy}
-use Rattle.modem_frames.specs.Frames.{openOf}
-use Rattle.modem_frames.proofs.FrameLaws.{known-inside, open-by}
-use Rattle.demand_plant.specs.World.{World, Step, list, clock, established, reauth, up, down, sealDown, sealUp, openUp, openDown, clockedBy, clockAnswers}
+use Rattle.modem_frames.specs.Frames.{openAnswer, openedFor, openOf}
+use Rattle.modem_frames.specs.OctetFrames.{openFrameAnswer, openFrameOf}
+use Rattle.modem_frames.proofs.FrameLaws.{known-inside, open-13}
+use Rattle.modem_frames.proofs.OctetLaws.{open-frame-13}
+use Rattle.modem_frames.proofs.OpenedLaws.{by-answer}
+use Rattle.demand_plant.specs.World.{World, Step, list, clock, established, reauth, up, down, sealDown, sealUp, openUp, openDown, sealDownFrame, sealUpFrame, openUpFrame, openDownFrame, clockedBy, clockAnswers}
 use Rattle.demand_plant.specs.Run.{after}
 use Rattle.demand_plant.specs.Demand3.{messagesIn, clockWrote, modemWrote}
 use Rattle.demand_plant.proofs.SentRead.{octetsApart, out-split}
@@ -110,15 +115,24 @@ module _ (m : Modem) (fits : modemFits m ≡ true) (h : Waits m) where
       let n = deliver-numbers m h i 5 in
       record { waits = counted-waits 13 (w .modem) (n .waits); written = out-numbered write (w .out) 1 (sends .out) (n .sent) }
 
+  opened-numbered : (said : ℕ) (number : TekNumber) (write : List ℕ) (a : Answer) → (answerNumber a ≡ 13 → (modemFits m ≡ true) × (isKnown m said ≡ true))
+      → CallNumbered (openedFor a m said number write .modem) (openedFor a m said number write .sent)
+  opened-numbered said number write a ready =
+      by-answer m said number write (λ o. CallNumbered (o .modem) (o .sent)) a (silent (countedBy 0 m) (counted-waits 0 m h))
+      (λ r e. silent (countedBy (numberOf r) m) (counted-waits (numberOf r) m h)) (λ r e is. missed-numbered said write (ready is .1))
+
   open-numbered : (direction address said : ℕ) (number : TekNumber) (write : List ℕ) (tek vector lent : ℕ)
       → CallNumbered (openOf m direction address said number write tek vector lent .modem) (openOf m direction address said number write tek vector lent .sent)
+  unfolding openOf
   open-numbered direction address said number write tek vector lent =
-      open-by m direction address said number write tek vector lent (λ o. CallNumbered (o .modem) (o .sent))
-      (λ e. silent (countedBy 1 m) (counted-waits 1 m h))
-      (λ e. silent (countedBy 2 m) (counted-waits 2 m h))
-      (λ e. silent (countedBy 10 m) (counted-waits 10 m h))
-      (λ i k e. missed-numbered said write (both (eqb address (m .address)) (isKnown m said) k .1))
-      (λ i k e. silent (countedBy 0 m) (counted-waits 0 m h))
+      opened-numbered said number write (openAnswer m direction address said number write tek vector lent) (open-13 m direction address said number write tek vector lent)
+
+  open-frame-numbered : (direction address said : ℕ) (number : TekNumber) (frame write : List ℕ) (lent messages : ℕ)
+      → CallNumbered (openFrameOf m direction address said number frame write lent messages .opened .modem) (openFrameOf m direction address said number frame write lent messages .opened .sent)
+  unfolding openFrameOf
+  open-frame-numbered direction address said number frame write lent messages =
+      opened-numbered said number write (openFrameAnswer m direction address said number write (length frame) lent messages)
+      (open-frame-13 m direction address said number write (length frame) lent messages)
 
 -- ---- every step
 pub step-numbered : (w : World) (s : Step) → modemFits (w .modem) ≡ true → Waits (w .modem) → CallNumbered (after w s .modem) (modemWrote w s)
@@ -137,3 +151,7 @@ step-numbered w (sealUp said tek vector) fits h = silent (w .modem) h
 step-numbered w (openUp direction address said number write tek vector lent) fits h = silent (w .modem) h
 step-numbered w (openDown direction address said number write tek vector lent) fits h =
     open-numbered (w .modem) fits h direction address said number write tek vector lent
+step-numbered w (sealDownFrame address said frame lent) fits h = silent (w .modem) h
+step-numbered w (sealUpFrame said frame lent) fits h = silent (w .modem) h
+step-numbered w (openUpFrame direction address said number frame write lent invalid) fits h = silent (w .modem) h
+step-numbered w (openDownFrame direction address said number frame write lent messages) fits h = open-frame-numbered (w .modem) fits h direction address said number frame write lent messages

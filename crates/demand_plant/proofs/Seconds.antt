@@ -12,8 +12,8 @@ use Rattle.key_association.specs.Made.{Accepted}
 use Rattle.headend_calls.specs.Calls as Head
 use Rattle.headend_calls.specs.Minting.{acceptedList}
 use Rattle.headend_calls.proofs.StateLaws.{receive-base}
-use Rattle.headend_calls.proofs.FrameAnswers.{open-same}
-use Rattle.demand_plant.specs.World.{World, fresh, Step, list, clock, established, reauth, up, down, sealDown, sealUp, openUp, openDown, clockedBy, clockAnswers}
+use Rattle.headend_calls.proofs.FrameAnswers.{open-same, open-frame-same}
+use Rattle.demand_plant.specs.World.{World, fresh, Step, list, clock, established, reauth, up, down, sealDown, sealUp, openUp, openDown, sealDownFrame, sealUpFrame, openUpFrame, openDownFrame, clockedBy, clockAnswers}
 use Rattle.demand_plant.specs.Run.{after}
 use Rattle.demand_plant.specs.KeysMade.{acceptedIf, clockIf, acceptedIn, acceptedBy, SecondsGiven}
 use Rattle.demand_plant.proofs.HeadKept.{list-clock, clock-second}
@@ -42,6 +42,10 @@ module _ (w : World) (rest : List Accepted) where
   step-listed (sealUp said tek vector) told = told
   step-listed (openUp direction address said number write tek vector lent) told = subst TellsAt (open-same (w .head) (w .records) direction address said number write tek vector lent .clock) told
   step-listed (openDown direction address said number write tek vector lent) told = told
+  step-listed (sealDownFrame address said frame lent) told = told
+  step-listed (sealUpFrame said frame lent) told = told
+  step-listed (openUpFrame direction address said number frame write lent invalid) told = subst TellsAt (open-frame-same (w .head) (w .records) direction address said number frame write lent invalid .clock) told
+  step-listed (openDownFrame direction address said number frame write lent messages) told = told
 
 -- from any world, and so from the fresh pair
 seconds-from : (ss : List Step) (w : World) → SecondsGiven (w .head .clock) (acceptedBy w ss)

@@ -9,6 +9,7 @@ use lib.Seq.{take-append-seam, drop-append-seam}
 use lib.Dec.{eqb}
 use Rattle.key_traffic.specs.declared.numbers.TekNumber.{TekNumber}
 use Rattle.questions.specs.declared.refusal.Refusal.the-variants.{NoKeyForFrame}
+use Rattle.questions.specs.declared.refusal.Answer.{Answer}
 use Rattle.questions.specs.declared.refusal.Answer.the-variants.{Done, Refused}
 use Rattle.questions.specs.Refusal.{answerNumber}
 use Rattle.questions.proofs.ListLaws.{Each, each-nil, each-cons}
@@ -36,9 +37,12 @@ use Rattle.modem_calls.proofs.NoneDropped.{messagesOf, tekSent, deliver-message
 use Rattle.modem_calls.proofs.SentRead.{request-read, request-holds}
 use Rattle.modem_calls.proofs.SentUp.{starting-up, deliver-up}
 use Rattle.modem_calls.proofs.SentCalls.{Readable, first-fit, SentAs, nothing-sent, out-sent, established-sent, reauth-sent, clock-sent, receive-sent}
-use Rattle.modem_frames.specs.Frames.{openOf}
-use Rattle.modem_frames.proofs.FrameLaws.{known-inside, frameIn, open-by}
-use Rattle.demand_plant.specs.World.{World, Step, list, clock, established, reauth, up, down, sealDown, sealUp, openUp, openDown, clockAnswers}
+use Rattle.modem_frames.specs.Frames.{openAnswer, openedFor, openOf}
+use Rattle.modem_frames.specs.OctetFrames.{openFrameAnswer, openFrameOf}
+use Rattle.modem_frames.proofs.FrameLaws.{known-inside, open-13}
+use Rattle.modem_frames.proofs.OctetLaws.{open-frame-13}
+use Rattle.modem_frames.proofs.OpenedLaws.{by-answer, opened-answer}
+use Rattle.demand_plant.specs.World.{World, Step, list, clock, established, reauth, up, down, sealDown, sealUp, openUp, openDown, sealDownFrame, sealUpFrame, openUpFrame, openDownFrame, clockAnswers}
 use Rattle.demand_plant.specs.Demand3.{messagesWith, messagesIn, clockWrote, modemWrote}
 
 -- ---- one message at the front
@@ -91,37 +95,50 @@ module _ (key : List ℕ) where
   unfolding outOctets
   out-split o n f = requests-split (length (requestsOctets key (messagesOf o))) (messagesOf o) (omega arith) (first-fit (o .count) (o .sent) (f .each))
 
--- ---- what the modem writes in a step
-module _ (m : Modem) (direction address said : ℕ) (number : TekNumber) (write : List ℕ) (tek vector lent : ℕ) where
-  frame-fits : frameIn m direction address said number ≡ true → modemFits m ≡ true
-  frame-fits i = both _ _ (both _ _ (both _ _ (both _ _ i .0) .0) .0) .0
-
-  open-sent : SentAs write (openOf m direction address said number write tek vector lent .sent)
-  open-sent =
+-- ---- what the modem writes in an opening that is answered with a
+module _ (m : Modem) (said : ℕ) (number : TekNumber) (write : List ℕ) (a : Answer) (ready : answerNumber a ≡ 13 → (modemFits m ≡ true) × (isKnown m said ≡ true)) where
+  opened-sent : SentAs write (openedFor a m said number write .sent)
+  opened-sent =
       let slot = slotOfSaid m said in
-      open-by m direction address said number write tek vector lent (λ o. SentAs write (o .sent))
-      (λ e. nothing-sent write)
-      (λ e. nothing-sent write)
-      (λ e. nothing-sent write)
-      (λ i h e.
-      let in-four = known-inside m said (both (eqb address (m .address)) (isKnown m said) h .1) .1 in
+      by-answer m said number write (λ o. SentAs write (o .sent)) a (nothing-sent write) (λ r e. nothing-sent write)
+      (λ r e is.
       out-sent write (deliver (starting m) slot 5 .out) 1
-      (deliver-sends (starting m) slot 5 noParams noParams 0 in-four (omega arith) (sends-none m (fits-sayable m (frame-fits i))) .out)
+      (deliver-sends (starting m) slot 5 noParams noParams 0 (known-inside m said (ready is .1) .1) (omega arith) (sends-none m (fits-sayable m (ready is .0))) .out)
       (deliver-up (starting m) slot 5 noParams noParams (starting-up m)))
-      (λ i h e. nothing-sent write)
 
-  -- an opening refused with 13 writes what the SAID's machine sends at event 5; `CallMessages` of crate `modem_calls` has the other calls
+  -- refused with 13 it writes what the SAID's machine sends at event 5; `CallMessages` of crate `modem_calls` has the other calls
+  opened-written : a ≡ Refused NoKeyForFrame → openedFor a m said number write .sent ≡ requestsOctets write (tekSent m (slotOfSaid m said) 5 noParams noParams)
+  unfolding outOctets
+  opened-written e =
+      ap (λ (b : Answer). openedFor b m said number write .sent) e
+      ∙ ap (requestsOctets write) (deliver-messages (starting m) (slotOfSaid m said) 5 noParams noParams 0 (omega arith) (sends-none m (fits-sayable m (ready (ap answerNumber e) .0))))
+
+module _ (m : Modem) (direction address said : ℕ) (number : TekNumber) (write : List ℕ) (tek vector lent : ℕ) where
+  open-sent : SentAs write (openOf m direction address said number write tek vector lent .sent)
+  unfolding openOf
+  open-sent =
+      opened-sent m said number write (openAnswer m direction address said number write tek vector lent) (open-13 m direction address said number write tek vector lent)
+
   pub open-written : openOf m direction address said number write tek vector lent .answer ≡ Refused NoKeyForFrame
       → openOf m direction address said number write tek vector lent .sent ≡ requestsOctets write (tekSent m (slotOfSaid m said) 5 noParams noParams)
-  unfolding outOctets
-  open-written =
-      let slot = slotOfSaid m said in
-      open-by m direction address said number write tek vector lent (λ o. o .answer ≡ Refused NoKeyForFrame → o .sent ≡ requestsOctets write (tekSent m slot 5 noParams noParams))
-      (λ e q. let z : _≡_ {A = ℕ} 1 13 = ap answerNumber q in absurd (omega arith))
-      (λ e q. let z : _≡_ {A = ℕ} 2 13 = ap answerNumber q in absurd (omega arith))
-      (λ e q. let z : _≡_ {A = ℕ} 10 13 = ap answerNumber q in absurd (omega arith))
-      (λ i h e q. ap (requestsOctets write) (deliver-messages (starting m) slot 5 noParams noParams 0 (omega arith) (sends-none m (fits-sayable m (frame-fits i)))))
-      (λ i h e q. let z : _≡_ {A = ℕ} 0 13 = ap answerNumber q in absurd (omega arith))
+  unfolding openOf
+  open-written e =
+      let a = openAnswer m direction address said number write tek vector lent in
+      opened-written m said number write a (open-13 m direction address said number write tek vector lent) (sym (opened-answer m said number write a) ∙ e)
+
+module _ (m : Modem) (direction address said : ℕ) (number : TekNumber) (frame write : List ℕ) (lent messages : ℕ) where
+  open-frame-sent : SentAs write (openFrameOf m direction address said number frame write lent messages .opened .sent)
+  unfolding openFrameOf
+  open-frame-sent =
+      opened-sent m said number write (openFrameAnswer m direction address said number write (length frame) lent messages)
+      (open-frame-13 m direction address said number write (length frame) lent messages)
+
+  pub open-frame-written : openFrameOf m direction address said number frame write lent messages .opened .answer ≡ Refused NoKeyForFrame
+      → openFrameOf m direction address said number frame write lent messages .opened .sent ≡ requestsOctets write (tekSent m (slotOfSaid m said) 5 noParams noParams)
+  unfolding openFrameOf
+  open-frame-written e =
+      let a = openFrameAnswer m direction address said number write (length frame) lent messages in
+      opened-written m said number write a (open-frame-13 m direction address said number write (length frame) lent messages) (sym (opened-answer m said number write a) ∙ e)
 
 -- The message key that a step of the modem is lent for what it writes
 abbrev pub writeKey : Step → List ℕ
@@ -135,6 +152,10 @@ writeKey (sealDown address said tek vector) = noKey
 writeKey (sealUp said tek vector) = noKey
 writeKey (openUp direction address said number write tek vector lent) = noKey
 writeKey (openDown direction address said number write tek vector lent) = write
+writeKey (sealDownFrame address said frame lent) = noKey
+writeKey (sealUpFrame said frame lent) = noKey
+writeKey (openUpFrame direction address said number frame write lent invalid) = noKey
+writeKey (openDownFrame direction address said number frame write lent messages) = write
 
 clock-wrote : (b : Bool) (w : World) (t : ℕ) (write : List ℕ) (lent : ℕ) → SentAs write (clockWrote b w t write lent)
 clock-wrote true w t write lent = clock-sent (w .modem) lent t write
@@ -151,6 +172,10 @@ modem-wrote w (sealDown address said tek vector) = nothing-sent noKey
 modem-wrote w (sealUp said tek vector) = nothing-sent noKey
 modem-wrote w (openUp direction address said number write tek vector lent) = nothing-sent noKey
 modem-wrote w (openDown direction address said number write tek vector lent) = open-sent (w .modem) direction address said number write tek vector lent
+modem-wrote w (sealDownFrame address said frame lent) = nothing-sent noKey
+modem-wrote w (sealUpFrame said frame lent) = nothing-sent noKey
+modem-wrote w (openUpFrame direction address said number frame write lent invalid) = nothing-sent noKey
+modem-wrote w (openDownFrame direction address said number frame write lent messages) = open-frame-sent (w .modem) direction address said number frame write lent messages
 
 -- The octets of a message that the head-end reads, with the fields that were sent; a digest holds under the key that it was written with
 pub record ReadAsSent (key octets : List ℕ) : Type 0 where

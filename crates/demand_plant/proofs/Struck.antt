@@ -24,11 +24,11 @@ use Rattle.headend_answers.specs.Answers.{withKeys, keysAfter, stateAfter}
 use Rattle.headend_limits.proofs.LimitsLaws.{known-place}
 use Rattle.headend_calls.specs.Calls as Head
 use Rattle.headend_calls.specs.Minting.{namedPairs, acceptedList}
-use Rattle.headend_calls.proofs.FrameAnswers.{open-same}
+use Rattle.headend_calls.proofs.FrameAnswers.{SameButCounts, open-same, open-frame-same}
 use Rattle.modem_calls.specs.Calls as Mdm
 use Rattle.modem_calls.proofs.PairLaws.{established-keeps, reauth-keeps, receive-keeps, clock-done}
-use Rattle.modem_frames.proofs.FrameKept.{open-keeps, clock-depends}
-use Rattle.demand_plant.specs.World.{World, fresh, Step, list, clock, established, reauth, up, down, sealDown, sealUp, openUp, openDown, clockAnswers, clockedBy}
+use Rattle.modem_frames.proofs.FrameKept.{open-keeps, open-frame-keeps, clock-depends}
+use Rattle.demand_plant.specs.World.{World, fresh, Step, list, clock, established, reauth, up, down, sealDown, sealUp, openUp, openDown, sealDownFrame, sealUpFrame, openUpFrame, openDownFrame, withHead, clockAnswers, clockedBy}
 use Rattle.demand_plant.specs.Run.{Did, after, Counts}
 use Rattle.demand_plant.specs.KeysMade.{acceptedIf, clockIf, acceptedIn, acceptedBy, struck}
 use Rattle.demand_plant.proofs.LogLaws.{Log}
@@ -71,9 +71,9 @@ module _ {D half own : ℕ} {w x : World} {tr us : List Did} {gs hs : List Log} 
         clocks = like .clocks;
       }
 
-  pub open-up-like : (direction address said : ℕ) (number : _) (write : List ℕ) (tek vector lent : ℕ) → Like (after w (openUp direction address said number write tek vector lent)) x
-  open-up-like direction address said number write tek vector lent =
-      let same = open-same (w .head) (w .records) direction address said number write tek vector lent in
+  -- an opening changes no more than the counts
+  counted-like : (h : HeadEnd) → SameButCounts (w .head) h → Like (withHead w h (w .records)) x
+  counted-like h same =
       record {
         heads = record {
           settings = same .settings ∙ like .heads .settings;
@@ -85,6 +85,14 @@ module _ {D half own : ℕ} {w x : World} {tr us : List Did} {gs hs : List Log} 
         records = like .records;
         clocks = like .clocks;
       }
+
+  pub open-up-like : (direction address said : ℕ) (number : _) (write : List ℕ) (tek vector lent : ℕ) → Like (after w (openUp direction address said number write tek vector lent)) x
+  open-up-like direction address said number write tek vector lent =
+      counted-like (after w (openUp direction address said number write tek vector lent) .head) (open-same (w .head) (w .records) direction address said number write tek vector lent)
+
+  pub open-up-frame-like : (direction address said : ℕ) (number : _) (frame write : List ℕ) (lent invalid : ℕ) → Like (after w (openUpFrame direction address said number frame write lent invalid)) x
+  open-up-frame-like direction address said number frame write lent invalid =
+      counted-like (after w (openUpFrame direction address said number frame write lent invalid) .head) (open-frame-same (w .head) (w .records) direction address said number frame write lent invalid)
 
   -- ---- a listing
   module _ (address allowed : ℕ) (l : Listing) (m : List ℕ) where
@@ -157,6 +165,13 @@ module _ {D half own : ℕ} (own-fits : addressFits own ≡ true) where
   made-alike (openDown direction address said number write tek vector lent ∷ ss) {w} {x} v u like c =
       made-alike ss (next own-fits v (openDown direction address said number write tek vector lent) (c .0) .inv) u
       (record { heads = like .heads; records = like .records; clocks = open-keeps (w .modem) direction address said number write tek vector lent .clock ∙ like .clocks }) (c .1)
+  made-alike (sealDownFrame address said frame lent ∷ ss) v u like c = made-alike ss (next own-fits v (sealDownFrame address said frame lent) (c .0) .inv) u like (c .1)
+  made-alike (sealUpFrame said frame lent ∷ ss) v u like c = made-alike ss (next own-fits v (sealUpFrame said frame lent) (c .0) .inv) u like (c .1)
+  made-alike (openUpFrame direction address said number frame write lent invalid ∷ ss) v u like c =
+      made-alike ss (next own-fits v (openUpFrame direction address said number frame write lent invalid) (c .0) .inv) u (open-up-frame-like v u like direction address said number frame write lent invalid) (c .1)
+  made-alike (openDownFrame direction address said number frame write lent messages ∷ ss) {w} {x} v u like c =
+      made-alike ss (next own-fits v (openDownFrame direction address said number frame write lent messages) (c .0) .inv) u
+      (record { heads = like .heads; records = like .records; clocks = open-frame-keeps (w .modem) direction address said number frame write lent messages .clock ∙ like .clocks }) (c .1)
 
 module _ (settings : Settings) (address said : ℕ) (records : List Assoc) (fits : settingsFit settings ≡ true) (address-fits : addressFits address ≡ true) (said-fits : said ≤ 16383) where
   abbrev start : World

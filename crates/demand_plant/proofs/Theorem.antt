@@ -1,5 +1,5 @@
--- Demand 3, part 1: in every list of steps that counts, each delivered frame is opened with the very key that its own sealing gave, or refused
--- with 13 or 10.
+-- Demand 3, part 1: in every list of steps that counts, each delivered frame is opened with the very key of its own sealing, or refused with 13 or
+-- 10.
 use mathlib.Core.Path.{_≡_, refl, sym, subst}
 use mathlib.Core.Bool.{true}
 use mathlib.Core.List.{List, [], _∷_, List·Memᴰ, List·Memᴰ·head, List·Memᴰ·tail}
@@ -23,16 +23,17 @@ use Rattle.modem_steps.specs.declared.state.Modem.{Modem}
 use Rattle.modem_steps.specs.State as ModemState
 use Rattle.modem_calls.proofs.CallLaws.{new-fits}
 use Rattle.modem_calls.proofs.PairSteps.{fresh-pairs}
-use Rattle.demand_plant.specs.World.{World, fresh, Step, list, clock, established, reauth, up, down, sealDown, sealUp, openUp, openDown}
+use Rattle.demand_plant.specs.World.{World, fresh, Step, list, clock, established, reauth, up, down, sealDown, sealUp, openUp, openDown, sealDownFrame, sealUpFrame, openUpFrame, openDownFrame}
 use Rattle.demand_plant.specs.Run.{Did, didOf, Allowed, Counts}
 use Rattle.demand_plant.specs.Claim.{Delivers, Agree, AgreesWith, Agrees}
 use Rattle.demand_plant.proofs.LogLaws.{Log}
 use Rattle.demand_plant.proofs.Copies.{PairCopied}
 use Rattle.demand_plant.proofs.HeadSteps.{fresh-ok}
 use Rattle.demand_plant.proofs.Inv.{Inv, Next}
-use Rattle.demand_plant.proofs.HeadNext.{list-next, clock-next, up-next, seal-down-next, open-up-next}
-use Rattle.demand_plant.proofs.ModemSteps.{established-next, reauth-next, down-next, seal-up-next, open-down-next}
+use Rattle.demand_plant.proofs.HeadNext.{list-next, clock-next, up-next, seal-down-next, open-up-next, seal-down-frame-next, open-up-frame-next}
+use Rattle.demand_plant.proofs.ModemSteps.{established-next, reauth-next, down-next, seal-up-next, open-down-next, seal-up-frame-next, open-down-frame-next}
 use Rattle.demand_plant.proofs.Frames.{modem-agrees, head-agrees}
+use Rattle.demand_plant.proofs.OctetFrames.{opened-agrees, modem-opens, head-opens}
 
 -- a step that opens nothing agrees
 none-opened : (F : ℕ) (tr : List Did) (d : Did) → d .given .opened ≡ [] → AgreesWith F tr d
@@ -51,6 +52,10 @@ module _ {D half own : ℕ} (own-fits : addressFits own ≡ true) {w : World} {t
   next (sealUp said tek vector) ok = seal-up-next v own-fits said tek vector
   next (openUp direction address said number write tek vector lent) ok = open-up-next v direction address said number write tek vector lent
   next (openDown direction address said number write tek vector lent) ok = open-down-next v direction address said number write tek vector lent
+  next (sealDownFrame address said frame lent) ok = seal-down-frame-next v address said frame lent
+  next (sealUpFrame said frame lent) ok = seal-up-frame-next v own-fits said frame lent
+  next (openUpFrame direction address said number frame write lent invalid) ok = open-up-frame-next v direction address said number frame write lent invalid
+  next (openDownFrame direction address said number frame write lent messages) ok = open-down-frame-next v direction address said number frame write lent messages
 
 module _ {D half own : ℕ} (F : ℕ) (bound : D + F ≤ 14 * half) (own-fits : addressFits own ≡ true) where
   module _ {w : World} {tr : List Did} {gs : List Log} (v : Inv D half own w tr gs) where
@@ -70,7 +75,23 @@ module _ {D half own : ℕ} (F : ℕ) (bound : D + F ≤ 14 * half) (own-fits : 
         head-agrees F bound v a i f j direction address said number write tek vector lent (sym (q .receiver)) (q .direction) (q .address) (q .said) (q .number) (q .long) (omega (arith, soon, same .clock)))
     up-agrees direction address said number write tek vector lent a i f j o (List·Memᴰ·tail k) d soon = elim k [ ]
 
-    agrees : (s : Step) → AgreesWith F tr (didOf w s)
+    -- opened in its octets
+    down-frame-agrees : (direction address said : ℕ) (number : TekNumber) (frame write : List ℕ) (lent messages : ℕ) → AgreesWith F tr (didOf w (openDownFrame direction address said number frame write lent messages))
+    down-frame-agrees direction address said number frame write lent messages a i f j o (List·Memᴰ·head e) d soon =
+        subst (Agree f) (sym e)
+        (let q = subst (Delivers f) e d in
+        opened-agrees gs f _ _ (modem-opens F bound v a i f j direction address said number frame write lent messages (sym (q .receiver)) (q .direction) (q .address) (q .said) (q .number) (q .long) soon))
+    down-frame-agrees direction address said number frame write lent messages a i f j o (List·Memᴰ·tail k) d soon = elim k [ ]
+
+    up-frame-agrees : (direction address said : ℕ) (number : TekNumber) (frame write : List ℕ) (lent invalid : ℕ) → AgreesWith F tr (didOf w (openUpFrame direction address said number frame write lent invalid))
+    up-frame-agrees direction address said number frame write lent invalid a i f j o (List·Memᴰ·head e) d soon =
+        subst (Agree f) (sym e)
+        (let q = subst (Delivers f) e d in
+        let same = HeadAnswers.open-frame-same (w .head) (w .records) direction address said number frame write lent invalid in
+        opened-agrees gs f _ _ (head-opens F bound v a i f j direction address said number frame write lent invalid (sym (q .receiver)) (q .direction) (q .address) (q .said) (q .number) (q .long) (omega (arith, soon, same .clock))))
+    up-frame-agrees direction address said number frame write lent invalid a i f j o (List·Memᴰ·tail k) d soon = elim k [ ]
+
+    pub agrees : (s : Step) → AgreesWith F tr (didOf w s)
     agrees (list address allowed l m) = none-opened F tr (didOf w (list address allowed l m)) refl
     agrees (clock t m write lent) = none-opened F tr (didOf w (clock t m write lent)) refl
     agrees (established lent) = none-opened F tr (didOf w (established lent)) refl
@@ -81,6 +102,10 @@ module _ {D half own : ℕ} (F : ℕ) (bound : D + F ≤ 14 * half) (own-fits : 
     agrees (sealUp said tek vector) = none-opened F tr (didOf w (sealUp said tek vector)) refl
     agrees (openUp direction address said number write tek vector lent) = up-agrees direction address said number write tek vector lent
     agrees (openDown direction address said number write tek vector lent) = down-agrees direction address said number write tek vector lent
+    agrees (sealDownFrame address said frame lent) = none-opened F tr (didOf w (sealDownFrame address said frame lent)) refl
+    agrees (sealUpFrame said frame lent) = none-opened F tr (didOf w (sealUpFrame said frame lent)) refl
+    agrees (openUpFrame direction address said number frame write lent invalid) = up-frame-agrees direction address said number frame write lent invalid
+    agrees (openDownFrame direction address said number frame write lent messages) = down-frame-agrees direction address said number frame write lent messages
 
   pub all-agree : (ss : List Step) {w : World} {tr : List Did} {gs : List Log} → Inv D half own w tr gs → Counts D tr w ss → Agrees F tr w ss
   all-agree [] v c = tt

@@ -5,6 +5,7 @@ use mathlib.Core.Bool.{Bool, true, false, _||_, cond}
 use mathlib.Core.List.{List, [], _∷_}
 use Prim.Native.Nat.{ℕ, _≤_, _<_}
 use lib.Dec.{eqb}
+use lib.ListN.{length}
 use Rattle.questions.specs.declared.refusal.Answer.{Answer}
 use Rattle.questions.specs.declared.refusal.Answer.the-variants.{Done, Refused}
 use Rattle.questions.specs.declared.settings.Settings.{Settings}
@@ -25,15 +26,17 @@ use Rattle.modem_limits.proofs.LimitsLaws.{by-four}
 use Rattle.modem_receive.specs.Receive.{received, fieldsIn}
 use Rattle.modem_calls.specs.Messages.{noKey}
 use Rattle.questions.specs.Questions.{firstNo}
+use Rattle.questions.specs.Refusal.{numberOf}
 use Rattle.modem_calls.specs.Calls.{resultOf, firstQuestions, eventOf, clockAnswer, clockOf, receiveAnswer, receiveOf}
 use Rattle.modem_calls.proofs.KeptMessages.{fresh-fits}
 use Rattle.modem_calls.proofs.CallLaws.{receive-asked}
 use Rattle.modem_calls.proofs.Numbered.{Waits, none-wait}
 use Rattle.modem_frames.specs.FrameRules.{withCounts, countedBy}
-use Rattle.modem_frames.specs.Frames.{openOf}
-use Rattle.modem_frames.proofs.FrameLaws.{open-by}
-use Rattle.modem_frames.proofs.FrameKept.{established-fits, reauth-fits, clock-fits, receive-fits, open-fits}
-use Rattle.demand_plant.specs.World.{World, fresh, Step, list, clock, established, reauth, up, down, sealDown, sealUp, openUp, openDown, clockedBy, clockAnswers}
+use Rattle.modem_frames.specs.Frames.{openAnswer, openedFor, openOf}
+use Rattle.modem_frames.specs.OctetFrames.{openFrameAnswer, openFrameOf}
+use Rattle.modem_frames.proofs.OpenedLaws.{by-answer}
+use Rattle.modem_frames.proofs.FrameKept.{established-fits, reauth-fits, clock-fits, receive-fits, open-fits, open-frame-fits}
+use Rattle.demand_plant.specs.World.{World, fresh, Step, list, clock, established, reauth, up, down, sealDown, sealUp, openUp, openDown, sealDownFrame, sealUpFrame, openUpFrame, openDownFrame, clockedBy, clockAnswers}
 use Rattle.demand_plant.specs.Run.{after, worldAfter}
 use Rattle.demand_plant.proofs.Under.{authorized, Under, Held, next, plain-held, deliver-held, clocked-held}
 use Rattle.demand_plant.proofs.UnderMessages.{received-held}
@@ -71,15 +74,19 @@ module _ (m : Modem) (fits : modemFits m ≡ true) (h : Held m) where
   receive-held s read write lent =
       result-held (receiveAnswer m s read write lent) m write (received m (fieldsIn s)) h (λ d. received-held m fits h (fieldsIn s) (receive-asked m s read write lent d .answers))
 
-  open-held : (direction address said : ℕ) (number : TekNumber) (write : List ℕ) (tek vector lent : ℕ) → Held (openOf m direction address said number write tek vector lent .modem)
+  opened-held : (said : ℕ) (number : TekNumber) (write : List ℕ) (a : Answer) → Held (openedFor a m said number write .modem)
   unfolding nextIn tekTransitions
-  open-held direction address said number write tek vector lent =
-      open-by m direction address said number write tek vector lent (λ o. Held (o .modem))
-      (λ e. counted-held 1 m h)
-      (λ e. counted-held 2 m h)
-      (λ e. counted-held 10 m h)
-      (λ i k e. counted-held 13 (deliver (starting m) (slotOfSaid m said) 5 .modem) (deliver-held (starting m) (slotOfSaid m said) 5 refl h))
-      (λ i k e. counted-held 0 m h)
+  opened-held said number write a =
+      by-answer m said number write (λ o. Held (o .modem)) a (counted-held 0 m h) (λ r e. counted-held (numberOf r) m h)
+      (λ r e is. counted-held 13 (deliver (starting m) (slotOfSaid m said) 5 .modem) (deliver-held (starting m) (slotOfSaid m said) 5 refl h))
+
+  open-held : (direction address said : ℕ) (number : TekNumber) (write : List ℕ) (tek vector lent : ℕ) → Held (openOf m direction address said number write tek vector lent .modem)
+  unfolding openOf
+  open-held direction address said number write tek vector lent = opened-held said number write (openAnswer m direction address said number write tek vector lent)
+
+  open-frame-held : (direction address said : ℕ) (number : TekNumber) (frame write : List ℕ) (lent messages : ℕ) → Held (openFrameOf m direction address said number frame write lent messages .opened .modem)
+  unfolding openFrameOf
+  open-frame-held direction address said number frame write lent messages = opened-held said number write (openFrameAnswer m direction address said number write (length frame) lent messages)
 
 -- ---- every step, and every list of them
 pub record Stands (w : World) : Type 0 where
@@ -112,6 +119,14 @@ step-held w (openDown direction address said number write tek vector lent) v =
     record {
       fits = open-fits (w .modem) direction address said number write tek vector lent (v .fits);
       held = open-held (w .modem) (v .fits) (v .held) direction address said number write tek vector lent;
+    }
+step-held w (sealDownFrame address said frame lent) v = record { fits = v .fits; held = v .held }
+step-held w (sealUpFrame said frame lent) v = record { fits = v .fits; held = v .held }
+step-held w (openUpFrame direction address said number frame write lent invalid) v = record { fits = v .fits; held = v .held }
+step-held w (openDownFrame direction address said number frame write lent messages) v =
+    record {
+      fits = open-frame-fits (w .modem) direction address said number frame write lent messages (v .fits);
+      held = open-frame-held (w .modem) (v .fits) (v .held) direction address said number frame write lent messages;
     }
 
 step-stands : (w : World) (s : Step) → Stands w → Stands (after w s)

@@ -16,9 +16,10 @@ use Rattle.key_association.specs.Made.{keysMade}
 use Rattle.message_rules.specs.Messages.{lengthOf}
 use Rattle.modem_calls.specs.Calls as Mdm
 use Rattle.modem_frames.specs.Frames as ModemFrames
-use Rattle.demand_plant.specs.World.{World, fresh, Step, list, clock, established, reauth, up, down, sealDown, sealUp, openUp, openDown, Frame, Opening, stepOf, clockAnswers}
-use Rattle.demand_plant.specs.Run.{Did, didOf, after, worldAfter, Copy}
-use Rattle.demand_plant.specs.Claim.{Delivers, Agrees}
+use Rattle.modem_frames.specs.OctetFrames as ModemOctets
+use Rattle.demand_plant.specs.World.{World, fresh, Step, list, clock, established, reauth, up, down, sealDown, sealUp, openUp, openDown, sealDownFrame, sealUpFrame, openUpFrame, openDownFrame, Frame, Opening, stepOf, clockAnswers}
+use Rattle.demand_plant.specs.Run.{Did, didOf, after, worldAfter, traceFrom, Copy}
+use Rattle.demand_plant.specs.Claim.{Delivers, Agrees, Handed, AllSealedHere, AllMaterialOctets, AgreesOctets}
 use Rattle.demand_plant.specs.KeysMade.{ShowsLast, SecondsGiven, acceptedBy, struck}
 
 -- ---- the claim about a list, run from the fresh pair
@@ -28,10 +29,12 @@ use Rattle.demand_plant.specs.KeysMade.{ShowsLast, SecondsGiven, accepte
 -- clock call leads to other keys: with all others struck from the list, the same keys are made. What counts as a key made is the definition's own,
 -- so by itself it says nothing of what the records hold, and would let an engine put keys there unseen. Part 3 rules that out: after every
 -- prefix of the list the records in use hold the last two keys made of each SAID, and so never any other, not even for the time of one step.
--- Part 4 rules out that a key made depends on an end's state: the second that a listing's keys are made at is told by the list.
+-- Part 4 rules out that a key made depends on an end's state: the second that a listing's keys are made at is told by the list. Parts 5 and 6 are about
+-- octets. Part 5 ties what is sealed here to the TEK and vector that part 1 speaks of: by itself part 1 would let an engine seal with one key and name
+-- another. Part 6 rules out that octets are opened to others than were sealed, whichever of the two calls sealed them, a cipher block at the other end too.
 pub record Demand3 (settings : Settings) (address said : ℕ) (records : List Assoc) (F : ℕ) (ss : List Step) : Type 0 where
-  -- 1. each frame that is delivered at most F seconds after its sealing is opened with the very octets that the sealing gave, or is
-  -- refused with 13 or 10
+  -- 1. each frame that is delivered at most F seconds after its sealing is opened with the very TEK and vector that the sealing gave, or sealed
+  -- its octets with, or is refused with 13 or 10; sealed by a call of either kind, opened by one of either kind
   pub frames : Agrees F [] (fresh settings address said records) ss
   -- 2. the keys made by the list are those made by its listings and clock calls alone, each list with its own answers
   pub made : keysMade (halfOf (settings .tek)) (acceptedBy (fresh settings address said records) ss)
@@ -42,6 +45,11 @@ pub record Demand3 (settings : Settings) (address said : ℕ) (records : List As
       (worldAfter (fresh settings address said records) (take n ss) .head) (worldAfter (fresh settings address said records) (take n ss) .records)
   -- 4. each accepted listing's second is that of the last accepted clock call before it, and 0 where there is none
   pub seconds : SecondsGiven 0 (acceptedBy (fresh settings address said records) ss)
+  -- 5. the octets of each frame sealed here are what the cipher makes of those handed in, with the TEK and vector of part 1
+  pub here : AllSealedHere (traceFrom (fresh settings address said records) ss)
+  -- 6. where the material is octets: each frame of octets that is delivered in its octets at most F seconds after its sealing, sealed here or by the definition
+  -- with what the sealing gave, is opened to its own octets, or is refused with 13 or 10
+  pub octets : AllMaterialOctets ss → AgreesOctets F [] (fresh settings address said records) ss
 
 -- ---- document 01's lists
 
@@ -70,6 +78,11 @@ modemWrote w (sealDown address said tek vector) = []
 modemWrote w (sealUp said tek vector) = []
 modemWrote w (openUp direction address said number write tek vector lent) = []
 modemWrote w (openDown direction address said number write tek vector lent) = ModemFrames.openOf (w .modem) direction address said number write tek vector lent .sent
+modemWrote w (sealDownFrame address said frame lent) = []
+modemWrote w (sealUpFrame said frame lent) = []
+modemWrote w (openUpFrame direction address said number frame write lent invalid) = []
+modemWrote w (openDownFrame direction address said number frame write lent messages) =
+    ModemOctets.openFrameOf (w .modem) direction address said number frame write lent messages .opened .sent
 
 -- A message that the modem sent, and the second
 pub record Sent : Type 0 where
@@ -90,7 +103,7 @@ pub record SentCopy (D : ℕ) (sent : List Sent) (now : ℕ) (octets : List ℕ)
   pub same : octets ≡ one .octets
   pub in-time : now ≤ one .clock + D
 
--- A frame of an earlier sealing, at most F seconds old, that the step's opening delivers to its receiver
+-- A frame of an earlier sealing, at most F seconds old, that the step's opening delivers to its receiver, in its octets where it opens octets
 pub record FrameCopy (F : ℕ) (earlier : List Did) (now : ℕ) (b : Did) : Type 0 where
   pub sealing : Did
   pub there : List·Memᴰ sealing earlier
@@ -99,6 +112,8 @@ pub record FrameCopy (F : ℕ) (earlier : List Did) (now : ℕ) (b : Did) : Type
   pub opening : Opening
   pub opens : List·Memᴰ opening (b .given .opened)
   pub delivers : Delivers frame opening
+  pub plain : List ℕ
+  pub handed : Handed frame plain (opening .carried)
   pub in-time : now ≤ sealing .clock + F
 
 -- any refused call
@@ -131,6 +146,12 @@ StepListed D F sent earlier w (openUp direction address said number write tek ve
     FrameCopy F earlier (w .head .clock) (didOf w (openUp direction address said number write tek vector lent)) ⊎ IsRefused w (openUp direction address said number write tek vector lent)
 StepListed D F sent earlier w (openDown direction address said number write tek vector lent) =
     FrameCopy F earlier (w .head .clock) (didOf w (openDown direction address said number write tek vector lent)) ⊎ IsRefused w (openDown direction address said number write tek vector lent)
+StepListed D F sent earlier w (sealDownFrame address said frame lent) = Unit {0}
+StepListed D F sent earlier w (sealUpFrame said frame lent) = Unit {0}
+StepListed D F sent earlier w (openUpFrame direction address said number frame write lent invalid) =
+    FrameCopy F earlier (w .head .clock) (didOf w (openUpFrame direction address said number frame write lent invalid)) ⊎ IsRefused w (openUpFrame direction address said number frame write lent invalid)
+StepListed D F sent earlier w (openDownFrame direction address said number frame write lent messages) =
+    FrameCopy F earlier (w .head .clock) (didOf w (openDownFrame direction address said number frame write lent messages)) ⊎ IsRefused w (openDownFrame direction address said number frame write lent messages)
 
 abbrev pub AllStepsListed : ℕ → ℕ → List Sent → List Did → World → List Step → Type 0
 AllStepsListed D F sent earlier w [] = Unit {0}
@@ -150,6 +171,10 @@ ListsFirst w (sealDown address said tek vector ∷ ss) = ⊥
 ListsFirst w (sealUp said tek vector ∷ ss) = ⊥
 ListsFirst w (openUp direction address said number write tek vector lent ∷ ss) = ⊥
 ListsFirst w (openDown direction address said number write tek vector lent ∷ ss) = ⊥
+ListsFirst w (sealDownFrame address said frame lent ∷ ss) = ⊥
+ListsFirst w (sealUpFrame said frame lent ∷ ss) = ⊥
+ListsFirst w (openUpFrame direction address said number frame write lent invalid ∷ ss) = ⊥
+ListsFirst w (openDownFrame direction address said number frame write lent messages ∷ ss) = ⊥
 
 pub record Listed (D F : ℕ) (w : World) (ss : List Step) : Type 0 where
   pub first : ListsFirst w ss

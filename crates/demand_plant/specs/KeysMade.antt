@@ -16,7 +16,7 @@ use Rattle.key_records.specs.Records.{none}
 use Rattle.headend_state.specs.declared.state.HeadEnd.{HeadEnd}
 use Rattle.headend_calls.specs.Calls as Head
 use Rattle.headend_calls.specs.Minting.{acceptedList, acceptedClock}
-use Rattle.demand_plant.specs.World.{World, Step, list, clock, established, reauth, up, down, sealDown, sealUp, openUp, openDown, clockAnswers}
+use Rattle.demand_plant.specs.World.{World, Step, list, clock, established, reauth, up, down, sealDown, sealUp, openUp, openDown, sealDownFrame, sealUpFrame, openUpFrame, openDownFrame, clockAnswers}
 use Rattle.demand_plant.specs.Run.{after}
 
 -- ---- the accepted listings and clock calls of a list, in order; a clock call is accepted where both ends accept it
@@ -39,6 +39,10 @@ acceptedIn w (sealDown address said tek vector) = []
 acceptedIn w (sealUp said tek vector) = []
 acceptedIn w (openUp direction address said number write tek vector lent) = []
 acceptedIn w (openDown direction address said number write tek vector lent) = []
+acceptedIn w (sealDownFrame address said frame lent) = []
+acceptedIn w (sealUpFrame said frame lent) = []
+acceptedIn w (openUpFrame direction address said number frame write lent invalid) = []
+acceptedIn w (openDownFrame direction address said number frame write lent messages) = []
 
 abbrev pub acceptedBy : World → List Step → List Accepted
 acceptedBy w [] = []
@@ -62,6 +66,10 @@ keptStep (sealDown address said tek vector) = []
 keptStep (sealUp said tek vector) = []
 keptStep (openUp direction address said number write tek vector lent) = []
 keptStep (openDown direction address said number write tek vector lent) = []
+keptStep (sealDownFrame address said frame lent) = []
+keptStep (sealUpFrame said frame lent) = []
+keptStep (openUpFrame direction address said number frame write lent invalid) = []
+keptStep (openDownFrame direction address said number frame write lent messages) = []
 
 abbrev pub struck : List Step → List Step
 struck [] = []

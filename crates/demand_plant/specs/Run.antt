@@ -3,7 +3,7 @@ use mathlib.Core.Path.{_≡_}
 use mathlib.Core.Logic.{_⊎_}
 use mathlib.Core.List.{List, [], _∷_, _++_, List·Memᴰ}
 use Prim.Native.Nat.{ℕ, _+_, _≤_}
-use Rattle.demand_plant.specs.World.{World, Step, list, clock, established, reauth, up, down, sealDown, sealUp, openUp, openDown, Given, stepOf}
+use Rattle.demand_plant.specs.World.{World, Step, list, clock, established, reauth, up, down, sealDown, sealUp, openUp, openDown, sealDownFrame, sealUpFrame, openUpFrame, openDownFrame, Given, stepOf}
 
 -- A step of the trace: what it gave, and the clock then
 pub record Did : Type 0 where
@@ -45,6 +45,10 @@ Allowed D earlier w (sealDown address said tek vector) = Unit {0}
 Allowed D earlier w (sealUp said tek vector) = Unit {0}
 Allowed D earlier w (openUp direction address said number write tek vector lent) = Unit {0}
 Allowed D earlier w (openDown direction address said number write tek vector lent) = Unit {0}
+Allowed D earlier w (sealDownFrame address said frame lent) = Unit {0}
+Allowed D earlier w (sealUpFrame said frame lent) = Unit {0}
+Allowed D earlier w (openUpFrame direction address said number frame write lent invalid) = Unit {0}
+Allowed D earlier w (openDownFrame direction address said number frame write lent messages) = Unit {0}
 
 -- Each step of a list is allowed, with the trace so far
 abbrev pub Counts : ℕ → List Did → World → List Step → Type 0

@@ -3,6 +3,7 @@ pub mod RowsMessages
 pub mod RowsKeyed
 pub mod RowsDigests
 pub mod RowsMoved
+pub mod RowsCiphered
 pub mod RowsTable
 pub mod RowsRun
 pub mod RowsSetUp
@@ -11,6 +12,7 @@ pub mod RowsKeys
 pub mod RowsRolled
 pub mod RowsResent
 pub mod RowsSixteen
+pub mod RowsOctets
 pub mod RowsLate
 pub mod RowsListed
 pub mod RowsSecond

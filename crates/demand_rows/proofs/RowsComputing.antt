@@ -1,4 +1,5 @@
--- Everything that a run of steps computes with but HMAC-SHA-1, under one name, so that a row names it alone on its `unfolding` line; and HMAC-SHA-1.
+-- Everything that a run of steps computes with but HMAC-SHA-1 and the cipher, under one name, so that a row names it alone on its `unfolding`
+-- line; and these two.
 use Rattle.key_traffic.specs.Frame.{serves, openingOf}
 use Rattle.key_traffic.specs.Octets.{padded, octetsOf, allZero, zeroPast}
 use Rattle.key_traffic.specs.Sealing.{oneMore}
@@ -36,24 +37,36 @@ use Rattle.headend_steps.specs.Clock.{clockQuestions, clockAnswer, clockCalled}
 use Rattle.headend_state.specs.Entries.{knownFrom, listsSuite}
 use Rattle.headend_frames.specs.FrameQuestions.{heldSuits, frameFits, sealAnswer, openAnswer, countedBy}
 use Rattle.headend_frames.specs.Frames.{sealedWith, invalidOctets, openedWith}
+use Rattle.headend_frames.specs.OctetFrames.{sealFrameAnswer, openFrameAnswer, sealedFrameWith, openedFrameWith}
 use Rattle.headend_limits.specs.Limits.{placeFits, listingFits, newAt, saidsDiffer as headSaidsDiffer, authKeysFit, entryFits, sharesAt, shares, isApart, allApart, entriesFrom, headFits}
 use Rattle.headend_steps.specs.Listing.{listQuestions, listAnswer, listCalled}
 use Rattle.headend_steps.specs.Receive.{recordSuits, identifierFits as headIdentifierFits, receiveAnswer, answerOctets, receiveCalled, receiveWritten}
 use Rattle.modem_calls.specs.Calls.{eventOf, clockFits, clockOf, receiveOf}
 use Rattle.modem_frames.specs.FrameRules.{countedBy as modemCountedBy}
 use Rattle.modem_frames.specs.Frames.{sealAsked, openAsked, sealAnswer as modemSealAnswer, sealOf, openAnswer as modemOpenAnswer, openOf}
+use Rattle.modem_frames.specs.OctetFrames.{sealFrameAsked, openFrameAsked, sealFrameAnswer as modemSealFrameAnswer, sealFrameOf, openFrameAnswer as modemOpenFrameAnswer, openFrameOf}
 use Rattle.modem_limits.specs.Limits.{timerFits, authorizationFits, keyZero, pairHeldFits, longestWait, tekFits, tekZero, slotFits, saidsOfTeks, modemFits}
 use Rattle.modem_calls.specs.Messages.{requestOctets, requestsOctets, outOctets}
 use Rattle.digest_sha1.specs.Words.{f, K, quarter}
 use Rattle.digest_sha1.specs.Sha1.{schedule, padding, octets8, zeros, rounds, roundAt, sha1, finish, allBlocks, blocks, block, compress, added}
 use Rattle.digest_hmac.specs.Hmac.{hmac, usedKey, inner, outer, keyBlock, same}
 use Rattle.message_digest.specs.Digest.{bare, signedOf}
+use Rattle.cipher_aes.specs.Field.{_⊕_, xors, by2, by3}
+use Rattle.cipher_aes.specs.Sbox.{sbox, sub, subBytes}
+use Rattle.cipher_aes.specs.Keys.{rcons, rcon, substitutedRotated, chained, nextKey, roundKey}
+use Rattle.cipher_aes.specs.Cipher.{shiftRows, mixColumn, columns, round, finalRound, rounds as cipherRounds, cipher}
+use Rattle.cipher_cbc.specs.Cbc.{chainedBlocks, frame, sealFrame, sealAes}
 
 unfoldable pub computing : Unit {0}
-unfolding serves openingOf padded octetsOf allZero zeroPast oneMore lifeFits tekTimesFit akTimesFit waitFits waitsFit settingsFit widthOf keyFits follows pairFits freshOf namesOf deadlinesFit recordFits rolledOf itemsWith items values countOf valueAt lastFrom allOf startFrom be16 be32 two four attrOctets octets keyOctets paramsOf descriptorOf carried carriedCount fieldsOf lengthOf bodyOf isWhole receives hasRequired insidesHaveRequired compoundsHaveRequired digestLast isNone different saidsIn saidsDiffer inOrder pairInOrder complete messageQuestions messageAnswer requiredOf among isRequired longestLife fits insideGood insideSound compound good sound placeOf takenOf readOf paramsItems descriptorItems descriptorsItems itemsOfType itemsOfTypes itemsOf message messageOf firstBy listedRecords authIdentifier authCounter authTimer informsOf requestsOf authMoved authStepOf counterAfter identifierAfter tekTimer pairAfter tekSends tekMoved tekStepOf isDue nextIn authorizationTransitions tekTransitions authTimerEvent tekTimerEvent authFired slotFired slotsFired clocked authStepped deliverAuth replied rejectEvent rejected invalidated widthsFit saidKnown identifierFits questionTwelve receiveQuestions received lists emptied appended keptIf keptOne keptTo startedIf startedOne startedTo listedAnew relisted steppedAt deliverReply deliverAll firstSlot withMessage descriptorAt keyAnswer requestAnswer requestState reactionOf activeOf hasNumber isActive keysFor clockQuestions clockAnswer clockCalled knownFrom listsSuite heldSuits frameFits sealAnswer sealedWith openAnswer countedBy invalidOctets openedWith placeFits listingFits newAt headSaidsDiffer authKeysFit entryFits sharesAt shares isApart allApart entriesFrom headFits listQuestions listAnswer listCalled recordSuits headIdentifierFits receiveAnswer answerOctets receiveCalled receiveWritten eventOf clockFits clockOf receiveOf sealAsked openAsked modemSealAnswer sealOf modemOpenAnswer modemCountedBy openOf timerFits authorizationFits keyZero pairHeldFits longestWait tekFits tekZero slotFits saidsOfTeks modemFits requestOctets requestsOctets outOctets bare signedOf same
+unfolding serves openingOf padded octetsOf allZero zeroPast oneMore lifeFits tekTimesFit akTimesFit waitFits waitsFit settingsFit widthOf keyFits follows pairFits freshOf namesOf deadlinesFit recordFits rolledOf itemsWith items values countOf valueAt lastFrom allOf startFrom be16 be32 two four attrOctets octets keyOctets paramsOf descriptorOf carried carriedCount fieldsOf lengthOf bodyOf isWhole receives hasRequired insidesHaveRequired compoundsHaveRequired digestLast isNone different saidsIn saidsDiffer inOrder pairInOrder complete messageQuestions messageAnswer requiredOf among isRequired longestLife fits insideGood insideSound compound good sound placeOf takenOf readOf paramsItems descriptorItems descriptorsItems itemsOfType itemsOfTypes itemsOf message messageOf firstBy listedRecords authIdentifier authCounter authTimer informsOf requestsOf authMoved authStepOf counterAfter identifierAfter tekTimer pairAfter tekSends tekMoved tekStepOf isDue nextIn authorizationTransitions tekTransitions authTimerEvent tekTimerEvent authFired slotFired slotsFired clocked authStepped deliverAuth replied rejectEvent rejected invalidated widthsFit saidKnown identifierFits questionTwelve receiveQuestions received lists emptied appended keptIf keptOne keptTo startedIf startedOne startedTo listedAnew relisted steppedAt deliverReply deliverAll firstSlot withMessage descriptorAt keyAnswer requestAnswer requestState reactionOf activeOf hasNumber isActive keysFor clockQuestions clockAnswer clockCalled knownFrom listsSuite heldSuits frameFits sealAnswer sealedWith openAnswer countedBy invalidOctets openedWith sealFrameAnswer openFrameAnswer sealedFrameWith openedFrameWith placeFits listingFits newAt headSaidsDiffer authKeysFit entryFits sharesAt shares isApart allApart entriesFrom headFits listQuestions listAnswer listCalled recordSuits headIdentifierFits receiveAnswer answerOctets receiveCalled receiveWritten eventOf clockFits clockOf receiveOf sealAsked openAsked modemSealAnswer sealOf modemOpenAnswer modemCountedBy openOf sealFrameAsked openFrameAsked modemSealFrameAnswer sealFrameOf modemOpenFrameAnswer openFrameOf timerFits authorizationFits keyZero pairHeldFits longestWait tekFits tekZero slotFits saidsOfTeks modemFits requestOctets requestsOctets outOctets bare signedOf same
 computing = tt
 
 -- What HMAC-SHA-1 computes with
 unfoldable pub hashing : Unit {0}
 unfolding hmac usedKey keyBlock inner outer sha1 finish allBlocks blocks block compress added schedule rounds roundAt padding octets8 zeros f K quarter
 hashing = tt
+
+-- What the cipher computes with where it seals
+unfoldable pub ciphering : Unit {0}
+unfolding sealAes sealFrame frame chainedBlocks cipher cipherRounds round finalRound shiftRows mixColumn columns subBytes sub sbox roundKey nextKey chained substitutedRotated rcon rcons xors _⊕_ by2 by3
+ciphering = tt

@@ -1,6 +1,6 @@
 -- The rows' lists are document 01's own, as `Listed` tells them clause by clause: a test by computation, and that it is enough.
-use mathlib.Core.Path.{_≡_, refl, sym, ap, _∙_}
-use mathlib.Core.Bool.{Bool, true, false, _&&_, _||_}
+use mathlib.Core.Path.{_≡_, refl, sym, ap, ap₂, subst, _∙_}
+use mathlib.Core.Bool.{Bool, true, false, not, _&&_, _||_}
 use mathlib.Core.Logic.{_⊎_, inl, inr}
 use mathlib.Core.List.{List, [], _∷_, _++_, List·Memᴰ, List·Memᴰ·head, List·Memᴰ·tail}
 use Prim.Native.Nat.{ℕ, _+_, _*_, _≤_}
@@ -11,16 +11,20 @@ use Rattle.questions.proofs.TestLaws.{both, either}
 use Rattle.message_rules.proofs.HoldsLaws.{never}
 use Rattle.digest_hmac.specs.Hmac.{same}
 use Rattle.digest_hmac.proofs.SameLaws.{same-equal}
-use Rattle.demand_plant.specs.World.{World, Step, list, clock, established, reauth, up, down, sealDown, sealUp, openUp, openDown, Frame, Opening}
+use Rattle.key_traffic.specs.Sealing.{KeyOut}
+use Rattle.cipher_cbc.specs.Cbc.{sealAes}
+use Rattle.frame_octets.specs.Framed.{sealUnder}
+use Rattle.demand_plant.specs.World.{World, Step, list, clock, established, reauth, up, down, sealDown, sealUp, openUp, openDown, sealDownFrame, sealUpFrame, openUpFrame, openDownFrame, Carried, keyGiven, octetsGiven, Frame, Opening}
 use Rattle.demand_plant.specs.Run.{Did, didOf, after}
-use Rattle.demand_plant.specs.Claim.{Delivers, Agrees}
-use Rattle.demand_plant.specs.Demand3.{Sent, sentAt, sentBy, messagesIn, SentCopy, FrameCopy, UpListed, StepListed, AllStepsListed, Listed}
+use Rattle.demand_plant.specs.Claim.{Delivers, CarriedAs, Handed, Agrees}
+use Rattle.demand_plant.specs.Demand3.{Sent, sentAt, sentBy, messagesIn, SentCopy, FrameCopy, IsRefused, UpListed, DownListed, StepListed, AllStepsListed, Listed}
 use Rattle.demand_rows.proofs.RowsComputing.{computing}
 use Rattle.demand_rows.proofs.RowsRun.{Run, didBy, isCopy, is-copy}
-use Rattle.demand_rows.proofs.RowsMoved.{moved}
-use Rattle.demand_rows.proofs.RowsTable.{quick, quick-same}
+use Rattle.demand_rows.proofs.RowsMoved.{Cipher, moved}
+use Rattle.demand_rows.proofs.RowsTable.{quick, quick-same, quickSeal, quick-seal}
 use Rattle.demand_rows.proofs.RowsSetUp.{settings, start}
 use Rattle.demand_rows.proofs.RowsWidths.{exchange, frames}
+use Rattle.demand_rows.proofs.RowsOctets.{octets}
 use Rattle.demand_rows.proofs.RowsKeys.{differing}
 use Rattle.demand_rows.proofs.RowsResent.{resent}
 use Rattle.demand_rows.proofs.RowsRolled.{rolled}
@@ -69,15 +73,44 @@ delivers-by f o e =
       long = p₅ .1;
     }
 
--- the frames and the openings here are one each at most: the first of each is asked
-abbrev firstFits : List Frame → List Opening → Bool
-firstFits [] os = false
-firstFits (f ∷ fs) [] = false
-firstFits (f ∷ fs) (o ∷ os) = fits f o
+-- The octets handed to an opening are the frame's: those that its sealing gave; where that gave the key, what S makes with it of the octets that
+-- the opening gave, 12 or more
+abbrev carries : Cipher → KeyOut → Carried → List ℕ → List ℕ → Bool
+carries S k keyGiven c given = leb 12 (length given) && same c (S (k .tek) (k .vector) given)
+carries S k (octetsGiven plain sealed) c given = same c sealed
 
-abbrev isDelivered : ℕ → ℕ → List Did → Did → Bool
-isDelivered F now [] b = false
-isDelivered F now (d ∷ ds) b = (firstFits (d .given .sealed) (b .given .opened) && leb now (d .clock + F)) || isDelivered F now ds b
+abbrev isHanded : Cipher → Frame → Carried → Bool
+isHanded S f keyGiven = true
+isHanded S f (octetsGiven c given) = carries S (f .out) (f .carried) c given
+
+-- The octets before they were sealed
+abbrev plainOf : Carried → List ℕ → List ℕ
+plainOf keyGiven given = given
+plainOf (octetsGiven plain sealed) given = plain
+
+abbrev plainFor : Frame → Carried → List ℕ
+plainFor f keyGiven = []
+plainFor f (octetsGiven c given) = plainOf (f .carried) given
+
+carries-by : (k : KeyOut) (a : Carried) (c given : List ℕ) → carries sealAes k a c given ≡ true → CarriedAs k a (plainOf a given) c
+carries-by k keyGiven c given e =
+    let p = both (leb 12 (length given)) (same c (sealUnder k given)) e in
+    (leb-true 12 (length given) (p .0), same-equal c (sealUnder k given) (p .1))
+carries-by k (octetsGiven plain sealed) c given e = (refl, same-equal c sealed e)
+
+handed-by : (f : Frame) (o : Carried) → isHanded sealAes f o ≡ true → Handed f (plainFor f o) o
+handed-by f keyGiven e = tt
+handed-by f (octetsGiven c given) e = carries-by (f .out) (f .carried) c given e
+
+-- the frames and the openings here are one each at most: the first of each is asked
+abbrev firstFits : Cipher → List Frame → List Opening → Bool
+firstFits S [] os = false
+firstFits S (f ∷ fs) [] = false
+firstFits S (f ∷ fs) (o ∷ os) = fits f o && isHanded S f (o .carried)
+
+abbrev isDelivered : Cipher → ℕ → ℕ → List Did → Did → Bool
+isDelivered S F now [] b = false
+isDelivered S F now (d ∷ ds) b = (firstFits S (d .given .sealed) (b .given .opened) && leb now (d .clock + F)) || isDelivered S F now ds b
 
 record First (fs : List Frame) (os : List Opening) : Type 0 where
   frame : Frame
@@ -85,20 +118,32 @@ record First (fs : List Frame) (os : List Opening) : Type 0 where
   opening : Opening
   opens : List·Memᴰ opening os
   delivers : Delivers frame opening
+  plain : List ℕ
+  handed : Handed frame plain (opening .carried)
 
-first-of : (fs : List Frame) (os : List Opening) → firstFits fs os ≡ true → First fs os
+first-of : (fs : List Frame) (os : List Opening) → firstFits sealAes fs os ≡ true → First fs os
 first-of [] os e = never e
 first-of (f ∷ fs) [] e = never e
-first-of (f ∷ fs) (o ∷ os) e = record { frame = f; sealed = List·Memᴰ·head refl; opening = o; opens = List·Memᴰ·head refl; delivers = delivers-by f o e }
+first-of (f ∷ fs) (o ∷ os) e =
+    let p = both (fits f o) (isHanded sealAes f (o .carried)) e in
+    record {
+      frame = f;
+      sealed = List·Memᴰ·head refl;
+      opening = o;
+      opens = List·Memᴰ·head refl;
+      delivers = delivers-by f o (p .0);
+      plain = plainFor f (o .carried);
+      handed = handed-by f (o .carried) (p .1);
+    }
 
-is-delivered : (F now : ℕ) (ds : List Did) (b : Did) → isDelivered F now ds b ≡ true → FrameCopy F ds now b
+is-delivered : (F now : ℕ) (ds : List Did) (b : Did) → isDelivered sealAes F now ds b ≡ true → FrameCopy F ds now b
 is-delivered F now [] b e = never e
-is-delivered F now (d ∷ ds) b e = go (either (firstFits (d .given .sealed) (b .given .opened) && leb now (d .clock + F)) (isDelivered F now ds b) e) (is-delivered F now ds b)
+is-delivered F now (d ∷ ds) b e = go (either (firstFits sealAes (d .given .sealed) (b .given .opened) && leb now (d .clock + F)) (isDelivered sealAes F now ds b) e) (is-delivered F now ds b)
   where
-    go : (firstFits (d .given .sealed) (b .given .opened) && leb now (d .clock + F) ≡ true) ⊎ (isDelivered F now ds b ≡ true) → (isDelivered F now ds b ≡ true → FrameCopy F ds now b)
+    go : (firstFits sealAes (d .given .sealed) (b .given .opened) && leb now (d .clock + F) ≡ true) ⊎ (isDelivered sealAes F now ds b ≡ true) → (isDelivered sealAes F now ds b ≡ true → FrameCopy F ds now b)
         → FrameCopy F (d ∷ ds) now b
     go (inl h) later =
-        let p = both (firstFits (d .given .sealed) (b .given .opened)) (leb now (d .clock + F)) h in
+        let p = both (firstFits sealAes (d .given .sealed) (b .given .opened)) (leb now (d .clock + F)) h in
         let q = first-of (d .given .sealed) (b .given .opened) (p .0) in
         record {
           sealing = d;
@@ -108,6 +153,8 @@ is-delivered F now (d ∷ ds) b e = go (either (firstFits (d .given .sealed) (b 
           opening = q .opening;
           opens = q .opens;
           delivers = q .delivers;
+          plain = q .plain;
+          handed = q .handed;
           in-time = leb-true now (d .clock + F) (p .1);
         }
     go (inr h) later =
@@ -120,6 +167,8 @@ is-delivered F now (d ∷ ds) b e = go (either (firstFits (d .given .sealed) (b 
           opening = c .opening;
           opens = c .opens;
           delivers = c .delivers;
+          plain = c .plain;
+          handed = c .handed;
           in-time = c .in-time;
         }
 
@@ -145,55 +194,97 @@ up-listed D sent w address read write octets auth lent e =
     let p₁ = both _ _ (p₂ .0) in
     inl (eqb-true address (w .modem .address) (p₁ .0), is-sent D (w .head .clock) octets sent (p₁ .1), eqb-true (length read) 20 (p₂ .1), eqb-true (length write) 20 (p₃ .1), leb-true 342 lent (p₄ .1), leb-true 1 (length auth) (p₅ .1), leb-true (length auth) 256 (p₆ .1))
 
--- with what the step gave
-abbrev stepListed : ℕ → ℕ → List Sent → List Did → World → Step → Did → Bool
-stepListed D F sent earlier w (list address allowed l m) d = true
-stepListed D F sent earlier w (clock t m write lent) d = true
-stepListed D F sent earlier w (established lent) d = true
-stepListed D F sent earlier w (reauth lent) d = true
-stepListed D F sent earlier w (up address read write octets auth lent) d = upListed D sent w address read write octets auth lent
-stepListed D F sent earlier w (down read write octets lent) d = isCopy D (w .head .clock) octets earlier && eqb (length read) 20 && eqb (length write) 20 && leb 216 lent
-stepListed D F sent earlier w (sealDown address said tek vector) d = true
-stepListed D F sent earlier w (sealUp said tek vector) d = true
-stepListed D F sent earlier w (openUp direction address said number write tek vector lent) d = isDelivered F (w .head .clock) earlier d
-stepListed D F sent earlier w (openDown direction address said number write tek vector lent) d = isDelivered F (w .head .clock) earlier d
+-- A refused step is listed
+abbrev isRefused : Did → Bool
+isRefused d = not (eqb (d .given .number) 0)
 
-step-listed : (D F : ℕ) (sent : List Sent) (earlier : List Did) (w : World) (s : Step) → stepListed D F sent earlier w s (didOf w s) ≡ true → StepListed D F sent earlier w s
+refused-by : (w : World) (s : Step) → isRefused (didOf w s) ≡ true → IsRefused w s
+refused-by w s e z = let n : not (eqb 0 0) ≡ true = subst (λ (x : ℕ). not (eqb x 0) ≡ true) z e in never n
+
+or-refused : {A : Type 0} (b : Bool) (w : World) (s : Step) → (b ≡ true → A) → b || isRefused (didOf w s) ≡ true → A ⊎ IsRefused w s
+or-refused {A} b w s law e = go (either b (isRefused (didOf w s)) e)
+  where
+    go : (b ≡ true) ⊎ (isRefused (didOf w s) ≡ true) → A ⊎ IsRefused w s
+    go (inl h) = inl (law h)
+    go (inr h) = inr (refused-by w s h)
+
+abbrev downListed : ℕ → List Did → World → List ℕ → List ℕ → List ℕ → ℕ → Bool
+downListed D earlier w read write octets lent = isCopy D (w .head .clock) octets earlier && eqb (length read) 20 && eqb (length write) 20 && leb 216 lent
+
+down-listed : (D : ℕ) (earlier : List Did) (w : World) (read write octets : List ℕ) (lent : ℕ) → downListed D earlier w read write octets lent ≡ true
+    → DownListed D earlier w read write octets lent
+down-listed D earlier w read write octets lent e =
+    let p₃ = both (isCopy D (w .head .clock) octets earlier && eqb (length read) 20 && eqb (length write) 20) (leb 216 lent) e in
+    let p₂ = both (isCopy D (w .head .clock) octets earlier && eqb (length read) 20) (eqb (length write) 20) (p₃ .0) in
+    let p₁ = both (isCopy D (w .head .clock) octets earlier) (eqb (length read) 20) (p₂ .0) in
+    (is-copy D (w .head .clock) octets earlier (p₁ .0), eqb-true (length read) 20 (p₁ .1), eqb-true (length write) 20 (p₂ .1), leb-true 216 lent (p₃ .1))
+
+-- with what the step gave
+abbrev stepListed : Cipher → ℕ → ℕ → List Sent → List Did → World → Step → Did → Bool
+stepListed S D F sent earlier w (list address allowed l m) d = true
+stepListed S D F sent earlier w (clock t m write lent) d = true
+stepListed S D F sent earlier w (established lent) d = true
+stepListed S D F sent earlier w (reauth lent) d = true
+stepListed S D F sent earlier w (up address read write octets auth lent) d = upListed D sent w address read write octets auth lent || isRefused d
+stepListed S D F sent earlier w (down read write octets lent) d = downListed D earlier w read write octets lent || isRefused d
+stepListed S D F sent earlier w (sealDown address said tek vector) d = true
+stepListed S D F sent earlier w (sealUp said tek vector) d = true
+stepListed S D F sent earlier w (openUp direction address said number write tek vector lent) d = isDelivered S F (w .head .clock) earlier d || isRefused d
+stepListed S D F sent earlier w (openDown direction address said number write tek vector lent) d = isDelivered S F (w .head .clock) earlier d || isRefused d
+stepListed S D F sent earlier w (sealDownFrame address said frame lent) d = true
+stepListed S D F sent earlier w (sealUpFrame said frame lent) d = true
+stepListed S D F sent earlier w (openUpFrame direction address said number frame write lent invalid) d = isDelivered S F (w .head .clock) earlier d || isRefused d
+stepListed S D F sent earlier w (openDownFrame direction address said number frame write lent messages) d = isDelivered S F (w .head .clock) earlier d || isRefused d
+
+opening-listed : (F : ℕ) (earlier : List Did) (w : World) (s : Step) → isDelivered sealAes F (w .head .clock) earlier (didOf w s) || isRefused (didOf w s) ≡ true
+    → FrameCopy F earlier (w .head .clock) (didOf w s) ⊎ IsRefused w s
+opening-listed F earlier w s e =
+    or-refused (isDelivered sealAes F (w .head .clock) earlier (didOf w s)) w s (is-delivered F (w .head .clock) earlier (didOf w s)) e
+
+step-listed : (D F : ℕ) (sent : List Sent) (earlier : List Did) (w : World) (s : Step) → stepListed sealAes D F sent earlier w s (didOf w s) ≡ true → StepListed D F sent earlier w s
 step-listed D F sent earlier w (list address allowed l m) e = tt
 step-listed D F sent earlier w (clock t m write lent) e = tt
 step-listed D F sent earlier w (established lent) e = tt
 step-listed D F sent earlier w (reauth lent) e = tt
-step-listed D F sent earlier w (up address read write octets auth lent) e = inl (up-listed D sent w address read write octets auth lent e)
+step-listed D F sent earlier w (up address read write octets auth lent) e =
+    or-refused (upListed D sent w address read write octets auth lent) w (up address read write octets auth lent) (up-listed D sent w address read write octets auth lent) e
 step-listed D F sent earlier w (down read write octets lent) e =
-    let p₃ = both (isCopy D (w .head .clock) octets earlier && eqb (length read) 20 && eqb (length write) 20) (leb 216 lent) e in
-    let p₂ = both (isCopy D (w .head .clock) octets earlier && eqb (length read) 20) (eqb (length write) 20) (p₃ .0) in
-    let p₁ = both (isCopy D (w .head .clock) octets earlier) (eqb (length read) 20) (p₂ .0) in
-    inl (is-copy D (w .head .clock) octets earlier (p₁ .0), eqb-true (length read) 20 (p₁ .1), eqb-true (length write) 20 (p₂ .1), leb-true 216 lent (p₃ .1))
+    or-refused (downListed D earlier w read write octets lent) w (down read write octets lent) (down-listed D earlier w read write octets lent) e
 step-listed D F sent earlier w (sealDown address said tek vector) e = tt
 step-listed D F sent earlier w (sealUp said tek vector) e = tt
-step-listed D F sent earlier w (openUp direction address said number write tek vector lent) e = inl (is-delivered F (w .head .clock) earlier (didOf w (openUp direction address said number write tek vector lent)) e)
-step-listed D F sent earlier w (openDown direction address said number write tek vector lent) e = inl (is-delivered F (w .head .clock) earlier (didOf w (openDown direction address said number write tek vector lent)) e)
+step-listed D F sent earlier w (openUp direction address said number write tek vector lent) e = opening-listed F earlier w (openUp direction address said number write tek vector lent) e
+step-listed D F sent earlier w (openDown direction address said number write tek vector lent) e = opening-listed F earlier w (openDown direction address said number write tek vector lent) e
+step-listed D F sent earlier w (sealDownFrame address said frame lent) e = tt
+step-listed D F sent earlier w (sealUpFrame said frame lent) e = tt
+step-listed D F sent earlier w (openUpFrame direction address said number frame write lent invalid) e = opening-listed F earlier w (openUpFrame direction address said number frame write lent invalid) e
+step-listed D F sent earlier w (openDownFrame direction address said number frame write lent messages) e = opening-listed F earlier w (openDownFrame direction address said number frame write lent messages) e
 
-abbrev allListedBy : Run → ℕ → ℕ → List Sent → List Did → World → List Step → Bool
-allListedBy run D F sent earlier w [] = true
-allListedBy run D F sent earlier w (s ∷ ss) =
-    stepListed D F sent earlier w s (didBy run w s)
-    && allListedBy run D F (sent ++ sentAt (run w s .stepped .world .head .clock) (messagesIn (run w s .wrote))) (earlier ++ (didBy run w s ∷ [])) (run w s .stepped .world) ss
+abbrev allListedBy : Run → Cipher → ℕ → ℕ → List Sent → List Did → World → List Step → Bool
+allListedBy run S D F sent earlier w [] = true
+allListedBy run S D F sent earlier w (s ∷ ss) =
+    stepListed S D F sent earlier w s (didBy run w s)
+    && allListedBy run S D F (sent ++ sentAt (run w s .stepped .world .head .clock) (messagesIn (run w s .wrote))) (earlier ++ (didBy run w s ∷ [])) (run w s .stepped .world) ss
 
-all-listed : (D F : ℕ) (ss : List Step) (sent : List Sent) (earlier : List Did) (w : World) → allListedBy moved D F sent earlier w ss ≡ true → AllStepsListed D F sent earlier w ss
+all-listed : (D F : ℕ) (ss : List Step) (sent : List Sent) (earlier : List Did) (w : World) → allListedBy moved sealAes D F sent earlier w ss ≡ true
+    → AllStepsListed D F sent earlier w ss
 all-listed D F [] sent earlier w e = tt
 all-listed D F (s ∷ ss) sent earlier w e =
-    let p = both (stepListed D F sent earlier w s (didOf w s)) (allListedBy moved D F (sent ++ sentBy w s) (earlier ++ (didOf w s ∷ [])) (after w s) ss) e in
+    let p = both (stepListed sealAes D F sent earlier w s (didOf w s)) (allListedBy moved sealAes D F (sent ++ sentBy w s) (earlier ++ (didOf w s ∷ [])) (after w s) ss) e in
     (step-listed D F sent earlier w s (p .0), all-listed D F ss (sent ++ sentBy w s) (earlier ++ (didOf w s ∷ [])) (after w s) (p .1))
 
-listed-quick : (D F : ℕ) (w : World) (ss : List Step) → allListedBy quick D F [] [] w ss ≡ true → AllStepsListed D F [] [] w ss
-listed-quick D F w ss e = all-listed D F ss [] [] w (sym (ap (λ (run : Run). allListedBy run D F [] [] w ss) quick-same) ∙ e)
+listed-quick : (D F : ℕ) (w : World) (ss : List Step) → allListedBy quick quickSeal D F [] [] w ss ≡ true → AllStepsListed D F [] [] w ss
+listed-quick D F w ss e =
+    all-listed D F ss [] [] w (sym (ap₂ (λ (run : Run) (S : Cipher). allListedBy run S D F [] [] w ss) quick-same quick-seal) ∙ e)
 
--- ---- both widths; another message key; a resent request whose two replies arrive; a rollover; generation 16; and document 01's own list with D = 12,600 and F = 0
--- or 1
+-- ---- both widths; frames in their octets, the refused ones too; another message key; a resent request whose two replies arrive; a rollover;
+-- generation 16; and document 01's own list with D = 12,600 and F = 0 or 1
 pub widths-listed : Listed 0 0 start (exchange ++ frames)
 unfolding computing
 widths-listed = record { first = (refl, refl, refl); steps = listed-quick 0 0 start (exchange ++ frames) refl }
+
+pub octets-listed : Listed 0 0 start octets
+unfolding computing
+octets-listed = record { first = (refl, refl, refl); steps = listed-quick 0 0 start octets refl }
 
 pub keys-listed : Listed 0 0 start differing
 unfolding computing

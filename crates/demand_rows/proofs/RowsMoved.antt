@@ -1,5 +1,5 @@
--- A step as `stepOf` and `modemWrote` tell it, with any function in the place of HMAC-SHA-1. With HMAC-SHA-1 it is they; with one that has the
--- digests of the rows' messages at hand (RowsTable.antt) antt computes a run in few steps.
+-- A step as `stepOf` and `modemWrote` tell it, with any functions in the place of HMAC-SHA-1 and of the cipher. With these it is they; with some
+-- that have the digests of the rows' messages and the octets of their frames at hand (RowsTable.antt) antt computes a run in few steps.
 use mathlib.Core.Path.{_≡_, refl, ap}
 use mathlib.Core.Bool.{Bool, true, false, cond, _&&_}
 use mathlib.Core.List.{List, [], _∷_, _++_}
@@ -11,11 +11,14 @@ use Rattle.questions.specs.declared.refusal.Answer.the-variants.{Done, Refused}
 use Rattle.questions.specs.Questions.{firstNo}
 use Rattle.questions.specs.Refusal.{answerNumber}
 use Rattle.key_traffic.specs.declared.numbers.TekNumber.{TekNumber}
+use Rattle.key_traffic.specs.Sealing.{KeyOut, Sealed}
 use Rattle.key_association.specs.declared.record.Assoc.{Assoc}
 use Rattle.key_association.specs.declared.search.Found.{Found}
 use Rattle.key_association.specs.declared.search.Probe.the-variants.{OfSaid}
 use Rattle.key_records.specs.Records.{firstOf, lookupOf}
 use Rattle.digest_hmac.specs.Hmac.{hmac, holds, same}
+use Rattle.cipher_cbc.specs.Cbc.{sealAes, openAes}
+use Rattle.frame_octets.specs.Framed.{frameLong, givenIf}
 use Rattle.message_rules.specs.declared.fields.Fields.{Fields}
 use Rattle.message_rules.specs.declared.fields.Place.{Place}
 use Rattle.message_rules.specs.declared.fields.Receiver.the-variants.{HeadEnd as AtHeadEnd}
@@ -29,6 +32,7 @@ use Rattle.modem_steps.specs.Clock.{clocked}
 use Rattle.modem_receive.specs.Receive.{receiveQuestions, received, fieldsIn}
 use Rattle.modem_calls.specs.Messages.{requestFields, requestOctets, requestsOctets, outOctets}
 use Rattle.modem_calls.specs.Calls as Mdm
+use Rattle.modem_frames.specs.OctetFrames as ModemOctets
 use Rattle.headend_state.specs.declared.state.HeadEnd.{HeadEnd}
 use Rattle.headend_state.specs.Entries.{knownOf}
 use Rattle.headend_limits.specs.Search.{outOfLimits, ofRequest}
@@ -36,14 +40,19 @@ use Rattle.headend_answers.specs.declared.answers.Reaction.{Reaction}
 use Rattle.headend_steps.specs.Receive.{keysFit, receiveAnswer, answerOctets, writtenFor, reactionTo, receiveCalled, receiveWritten}
 use Rattle.headend_frames.specs.FrameQuestions.{openAnswer}
 use Rattle.headend_frames.specs.Frames.{HeadOpened, invalidFields, invalidOctets, openedFor, openedWith}
+use Rattle.headend_frames.specs.OctetFrames.{openFrameAnswer, sealedFrameWith, openedFrameWith}
 use Rattle.headend_frames.specs.FrameCalls as HeadFrames
 use Rattle.headend_calls.specs.Calls as Head
-use Rattle.demand_plant.specs.World.{World, Step, list, clock, established, reauth, up, down, sealDown, sealUp, openUp, openDown, Stepped, stepOf, answered, oneIf, withHead, withModem, openedUp, clockAnswers}
+use Rattle.demand_plant.specs.World.{World, Step, list, clock, established, reauth, up, down, sealDown, sealUp, openUp, openDown, sealDownFrame, sealUpFrame, openUpFrame, openDownFrame, keyGiven, octetsGiven, Given, Stepped, stepOf, answered, oneIf, withHead, withModem, sealedAs, openedUp, openedDown, clockAnswers}
 use Rattle.demand_plant.specs.Demand3.{modemWrote, clockWrote}
 
 -- The digest of a key and the octets that it is over
 abbrev pub Mac : Type 0
 Mac = List ℕ → List ℕ → List ℕ
+
+-- A frame's octets, sealed or opened with a TEK and a vector
+abbrev pub Cipher : Type 0
+Cipher = List ℕ → List ℕ → List ℕ → List ℕ
 
 -- A step, and what the modem wrote in it
 pub record Moved : Type 0 where
@@ -127,30 +136,58 @@ abbrev openedBy : Mac → HeadOpened → HeadEnd → ℕ → ℕ → List ℕ �
 openedBy H o h address said write =
     record { answer = o .answer; state = o .state; out = o .out; invalid = invalidBy H (o .answer) h address said write }
 
--- ---- a step
-abbrev pub movedBy : Mac → World → Step → Moved
-movedBy H w (list address allowed l m) = moved w (list address allowed l m)
-movedBy H w (clock t m write lent) =
+-- ---- a frame's octets, where nothing is refused
+abbrev under : Cipher → Answer → KeyOut → List ℕ → List ℕ
+under C a k frame = givenIf a (C (k .tek) (k .vector) frame)
+
+abbrev sealedIn : Cipher → ℕ → ℕ → ℕ → Sealed → List ℕ → Given
+sealedIn S direction address said s frame = sealedAs direction address said s (octetsGiven frame (under S (s .answer) (s .out) frame))
+
+-- ---- a step; S seals and O opens
+abbrev pub movedBy : Mac → Cipher → Cipher → World → Step → Moved
+movedBy H S O w (list address allowed l m) = moved w (list address allowed l m)
+movedBy H S O w (clock t m write lent) =
     record { stepped = stepOf w (clock t m write lent); wrote = clockWroteBy H (clockAnswers w t m write lent) w t write lent }
-movedBy H w (established lent) = moved w (established lent)
-movedBy H w (reauth lent) = moved w (reauth lent)
-movedBy H w (up address read write octets auth lent) =
+movedBy H S O w (established lent) = moved w (established lent)
+movedBy H S O w (reauth lent) = moved w (reauth lent)
+movedBy H S O w (up address read write octets auth lent) =
     record {
       stepped = upFor (requestHoldsBy H read octets) (octetsBy H (w .head) (w .records) address read write octets auth lent) w address read write octets auth lent;
       wrote = [];
     }
-movedBy H w (down read write octets lent) = downFor H (downAnswerBy H (w .modem) octets read write lent) w write octets
-movedBy H w (sealDown address said tek vector) = moved w (sealDown address said tek vector)
-movedBy H w (sealUp said tek vector) = moved w (sealUp said tek vector)
-movedBy H w (openUp direction address said number write tek vector lent) =
+movedBy H S O w (down read write octets lent) = downFor H (downAnswerBy H (w .modem) octets read write lent) w write octets
+movedBy H S O w (sealDown address said tek vector) = moved w (sealDown address said tek vector)
+movedBy H S O w (sealUp said tek vector) = moved w (sealUp said tek vector)
+movedBy H S O w (openUp direction address said number write tek vector lent) =
     record {
       stepped = openedUp w direction address said number (messageKeyFits write && leb 16 tek && leb 16 vector && leb 40 lent)
-          (openedBy H (HeadFrames.openOf (w .head) (w .records) direction address said number write tek vector lent) (w .head) address said write);
+          (openedBy H (HeadFrames.openOf (w .head) (w .records) direction address said number write tek vector lent) (w .head) address said write) keyGiven;
       wrote = [];
     }
-movedBy H w (openDown direction address said number write tek vector lent) = moved w (openDown direction address said number write tek vector lent)
+movedBy H S O w (openDown direction address said number write tek vector lent) = moved w (openDown direction address said number write tek vector lent)
+movedBy H S O w (sealDownFrame address said frame lent) =
+    record {
+      stepped = record { world = w; given = sealedIn S 1 address said (HeadFrames.sealFrameOf (w .head) (w .records) address said frame lent .sealed) frame };
+      wrote = [];
+    }
+movedBy H S O w (sealUpFrame said frame lent) =
+    record { stepped = record { world = w; given = sealedIn S 0 (w .modem .address) said (ModemOctets.sealFrameOf (w .modem) said frame lent .sealed) frame }; wrote = [] }
+movedBy H S O w (openUpFrame direction address said number frame write lent invalid) =
+    let o = HeadFrames.openFrameOf (w .head) (w .records) direction address said number frame write lent invalid .opened in
+    record {
+      stepped = openedUp w direction address said number (messageKeyFits write && leb (length frame) lent && leb 40 invalid && frameLong (length frame))
+          (openedBy H o (w .head) address said write) (octetsGiven frame (under O (o .answer) (o .out) frame));
+      wrote = [];
+    }
+movedBy H S O w (openDownFrame direction address said number frame write lent messages) =
+    let o = ModemOctets.openFrameOf (w .modem) direction address said number frame write lent messages .opened in
+    record {
+      stepped = openedDown w direction address said number (messageKeyFits write && leb (length frame) lent && leb 216 messages && frameLong (length frame))
+          o (octetsGiven frame (under O (o .answer) (o .out) frame));
+      wrote = o .sent;
+    }
 
--- ---- with HMAC-SHA-1 it is the step
+-- ---- with HMAC-SHA-1 and the cipher it is the step
 requests-same : (key : List ℕ) (rs : List Request) → requestsBy hmac key rs ≡ requestsOctets key rs
 unfolding requestsOctets requestOctets signedOf
 requests-same key [] = refl
@@ -186,8 +223,8 @@ unfolding invalidOctets signedOf
 opened-same Done h s address said number write = refl
 opened-same (Refused r) h s address said number write = refl
 
-pub moved-same : (w : World) (s : Step) → movedBy hmac w s ≡ moved w s
-unfolding Mdm.receiveOf digestHolds holds openedWith
+pub moved-same : (w : World) (s : Step) → movedBy hmac sealAes openAes w s ≡ moved w s
+unfolding Mdm.receiveOf digestHolds holds openedWith sealedFrameWith openedFrameWith ModemOctets.sealFrameOf ModemOctets.openFrameOf
 moved-same w (list address allowed l m) = refl
 moved-same w (clock t m write lent) =
     ap (λ (l : List ℕ). record { stepped = stepOf w (clock t m write lent); wrote = l }) (clock-same (clockAnswers w t m write lent) w t write lent)
@@ -204,7 +241,7 @@ moved-same w (sealUp said tek vector) = refl
 moved-same w (openUp direction address said number write tek vector lent) =
     ap
     (λ (o : HeadOpened). record {
-      stepped = openedUp w direction address said number (messageKeyFits write && leb 16 tek && leb 16 vector && leb 40 lent) o;
+      stepped = openedUp w direction address said number (messageKeyFits write && leb 16 tek && leb 16 vector && leb 40 lent) o keyGiven;
       wrote = [];
     })
     (opened-same
@@ -212,3 +249,17 @@ moved-same w (openUp direction address said number write tek vector lent) =
     (messageKeyFits write) tek vector lent)
     (w .head) (lookupOf (OfSaid said) (w .records)) address said number write)
 moved-same w (openDown direction address said number write tek vector lent) = refl
+moved-same w (sealDownFrame address said frame lent) = refl
+moved-same w (sealUpFrame said frame lent) = refl
+moved-same w (openUpFrame direction address said number frame write lent invalid) =
+    ap
+    (λ (o : HeadOpened). record {
+      stepped = openedUp w direction address said number (messageKeyFits write && leb (length frame) lent && leb 40 invalid && frameLong (length frame)) o
+          (octetsGiven frame (HeadFrames.openFrameOf (w .head) (w .records) direction address said number frame write lent invalid .octets));
+      wrote = [];
+    })
+    (opened-same
+    (openFrameAnswer (w .head) (firstOf (outOfLimits (w .head)) (w .records)) (length (w .records)) (lookupOf (OfSaid said) (w .records)) direction address said number
+    (messageKeyFits write) (length frame) lent invalid)
+    (w .head) (lookupOf (OfSaid said) (w .records)) address said number write)
+moved-same w (openDownFrame direction address said number frame write lent messages) = refl

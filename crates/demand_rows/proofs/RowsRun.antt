@@ -8,7 +8,7 @@ use lib.Dec.{leb}
 use borrow.Author.Tests.{leb-true}
 use Rattle.questions.proofs.TestLaws.{both, either}
 use Rattle.message_rules.proofs.HoldsLaws.{never}
-use Rattle.demand_plant.specs.World.{World, Step, list, clock, established, reauth, up, down, sealDown, sealUp, openUp, openDown, Frame, Opening}
+use Rattle.demand_plant.specs.World.{World, Step, list, clock, established, reauth, up, down, sealDown, sealUp, openUp, openDown, sealDownFrame, sealUpFrame, openUpFrame, openDownFrame, Frame, Opening}
 use Rattle.demand_plant.specs.Run.{Did, didOf, after, worldAfter, traceFrom, Copy, Allowed, Counts}
 use Rattle.demand_plant.specs.Claim.{AgreesWith, Agrees}
 use Rattle.digest_hmac.specs.Hmac.{same}
@@ -73,6 +73,10 @@ mayCome D earlier w (sealDown address said tek vector) = true
 mayCome D earlier w (sealUp said tek vector) = true
 mayCome D earlier w (openUp direction address said number write tek vector lent) = true
 mayCome D earlier w (openDown direction address said number write tek vector lent) = true
+mayCome D earlier w (sealDownFrame address said frame lent) = true
+mayCome D earlier w (sealUpFrame said frame lent) = true
+mayCome D earlier w (openUpFrame direction address said number frame write lent invalid) = true
+mayCome D earlier w (openDownFrame direction address said number frame write lent messages) = true
 
 -- Each octet string that reaches the modem is one that an earlier step put out for it, at most D seconds before
 abbrev pub allComeBy : Run → ℕ → List Did → World → List Step → Bool
@@ -111,6 +115,10 @@ may-come D earlier w (sealDown address said tek vector) e = tt
 may-come D earlier w (sealUp said tek vector) e = tt
 may-come D earlier w (openUp direction address said number write tek vector lent) e = tt
 may-come D earlier w (openDown direction address said number write tek vector lent) e = tt
+may-come D earlier w (sealDownFrame address said frame lent) e = tt
+may-come D earlier w (sealUpFrame said frame lent) e = tt
+may-come D earlier w (openUpFrame direction address said number frame write lent invalid) e = tt
+may-come D earlier w (openDownFrame direction address said number frame write lent messages) e = tt
 
 pub all-count : (D : ℕ) (earlier : List Did) (w : World) (ss : List Step) → allComeBy moved D earlier w ss ≡ true → Counts D earlier w ss
 all-count D earlier w [] e = tt

@@ -6,7 +6,7 @@ use lib.ListN.{replicate}
 use Rattle.questions.specs.declared.settings.Settings.{Settings}
 use Rattle.key_association.specs.declared.listing.Listing.{Listing}
 use Rattle.key_association.specs.Search.{blank}
-use Rattle.demand_plant.specs.World.{World, fresh, Step, clock, Frame, Opening}
+use Rattle.demand_plant.specs.World.{World, fresh, Step, clock, keyGiven, Frame, Opening}
 use Rattle.demand_rows.proofs.RowsMessages.{upKey}
 
 abbrev pub settings : Settings
@@ -49,11 +49,11 @@ abbrev pub turns : ℕ → ℕ → List Step
 turns n zero = []
 turns n (suc k) = turn n ∷ turns (suc n) k
 
--- A frame of this modem: direction, SAID, number, TEK and vector. And an opening of one at its receiver: after the number the number of the
--- answer
+-- A frame of this modem whose sealing gave the key: direction, SAID, number, TEK and vector. And an opening of one at its receiver that gives the
+-- key: after the number the number of the answer
 abbrev pub frame : ℕ → ℕ → ℕ → List ℕ → List ℕ → Frame
 frame direction said number tek vector =
-    record { direction = direction; address = 1; said = said; number = record { 0 = number }; out = record { tek = tek; vector = vector } }
+    record { direction = direction; address = 1; said = said; number = record { 0 = number }; out = record { tek = tek; vector = vector }; carried = keyGiven }
 
 abbrev pub opening : ℕ → ℕ → ℕ → ℕ → List ℕ → List ℕ → Opening
 opening direction said number result tek vector =
@@ -66,4 +66,5 @@ opening direction said number result tek vector =
       long = true;
       result = result;
       out = record { tek = tek; vector = vector };
+      carried = keyGiven;
     }

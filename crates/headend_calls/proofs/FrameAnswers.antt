@@ -31,6 +31,7 @@ use Rattle.headend_limits.specs.Limits.{headFits}
 use Rattle.headend_limits.specs.Search.{halfIn, outOfLimits}
 use Rattle.headend_frames.specs.FrameQuestions.{withCounts, countedBy, openAnswer}
 use Rattle.headend_frames.specs.Frames.{invalidFields, invalidOctets, openedFor, openedWith}
+use Rattle.headend_frames.specs.OctetFrames.{openFrameAnswer, openedFrameWith}
 use Rattle.headend_answers.specs.AnswerFields.{reject, replyAnswer, keyReply}
 use Rattle.headend_answers.specs.Answers.{keysAfter, keyAnswer, requestAnswer, requestReaction, reactionOf}
 use Rattle.headend_steps.specs.Receive.{answerOctets, receiveAnswer, writtenFor, receiveCalled, receiveWritten, keysFit}
@@ -38,7 +39,7 @@ use Rattle.headend_limits.proofs.LimitsLaws.{head-facts}
 use Rattle.headend_steps.proofs.AnswerFits.{Replied, active-small, by-key-answer}
 use Rattle.headend_steps.proofs.AnswersRead.{ShapedRecord, readBack, key-reply-read}
 use Rattle.headend_calls.specs.Calls.{receiveOctets, requestHolds}
-use Rattle.headend_frames.specs.FrameCalls.{openOf}
+use Rattle.headend_frames.specs.FrameCalls.{openOf, openFrameOf}
 use Rattle.headend_calls.specs.Within.{Within}
 use Rattle.headend_calls.proofs.AnswersSent.{request, found, reaction, Takes, takes-asked, receive-done}
 use Rattle.headend_calls.proofs.AnswerCases.{placeOf, KeyReplied, sent-key-reply}
@@ -76,23 +77,11 @@ counted-same n h = go (eqb n 0) (eqb n 10 || eqb n 13)
     go false true = same-counts h (h .taken) (oneMore (h .refused))
     go false false = same-counts h (h .taken) (h .refused)
 
-module _ (h : HeadEnd) (xs : List Assoc) (direction address said : ℕ) (number : TekNumber) (write : List ℕ) (tek vector lent : ℕ) where
-  abbrev looked : Found
-  looked = lookupOf (OfSaid said) xs
-
-  abbrev answered : Answer
-  answered = openAnswer h (firstOf (outOfLimits h) xs) (length xs) looked direction address said number (messageKeyFits write) tek vector lent
-
-  pub open-same : SameButCounts h (openOf h xs direction address said number write tek vector lent .state)
-  unfolding openedWith
-  open-same = go answered
-    where
-      go : (a : Answer) → SameButCounts h (openedFor a h looked address said number write .state)
-      go Done = counted-same 0 h
-      go (Refused r) = counted-same (answerNumber (Refused r)) h
-
-  pub open-within : Within h xs → Within (openOf h xs direction address said number write tek vector lent .state) xs
-  open-within w = same-within h (openOf h xs direction address said number write tek vector lent .state) open-same xs w
+-- an opening that is answered with a, by key or in octets
+module _ (h : HeadEnd) (s : Found) (address said : ℕ) (number : TekNumber) (write : List ℕ) where
+  opened-same : (a : Answer) → SameButCounts h (openedFor a h s address said number write .state)
+  opened-same Done = counted-same 0 h
+  opened-same (Refused r) = counted-same (answerNumber (Refused r)) h
 
   -- What it puts out is a TEK Invalid or nothing
   invalid-code : (k : Known) → codeOf (invalidOctets h k said write) ≡ 8 → ⊥
@@ -103,17 +92,41 @@ module _ (h : HeadEnd) (xs : List Assoc) (direction address said : ℕ) (number 
       go true e = omega (arith, e)
       go false e = omega (arith, e)
 
-  pub invalid-not-reply : codeOf (openOf h xs direction address said number write tek vector lent .invalid) ≡ 8 → ⊥
-  unfolding openedWith
-  invalid-not-reply = go answered
+  opened-not-reply : (a : Answer) → codeOf (openedFor a h s address said number write .invalid) ≡ 8 → ⊥
+  opened-not-reply Done e = omega (arith, e)
+  opened-not-reply (Refused r) e = by (eqb (answerNumber (Refused r)) 13) e
     where
       by : (b : Bool) → codeOf (cond b (invalidOctets h (knownOf h address) said write) []) ≡ 8 → ⊥
       by true e = invalid-code (knownOf h address) e
       by false e = omega (arith, e)
 
-      go : (a : Answer) → codeOf (openedFor a h looked address said number write .invalid) ≡ 8 → ⊥
-      go Done e = omega (arith, e)
-      go (Refused r) e = by (eqb (answerNumber (Refused r)) 13) e
+module _ (h : HeadEnd) (xs : List Assoc) (direction address said : ℕ) (number : TekNumber) (write : List ℕ) (tek vector lent : ℕ) where
+  abbrev answered : Answer
+  answered = openAnswer h (firstOf (outOfLimits h) xs) (length xs) (lookupOf (OfSaid said) xs) direction address said number (messageKeyFits write) tek vector lent
+
+  pub open-same : SameButCounts h (openOf h xs direction address said number write tek vector lent .state)
+  unfolding openedWith
+  open-same = opened-same h (lookupOf (OfSaid said) xs) address said number write answered
+
+  pub open-within : Within h xs → Within (openOf h xs direction address said number write tek vector lent .state) xs
+  open-within w = same-within h (openOf h xs direction address said number write tek vector lent .state) open-same xs w
+
+  pub invalid-not-reply : codeOf (openOf h xs direction address said number write tek vector lent .invalid) ≡ 8 → ⊥
+  unfolding openedWith
+  invalid-not-reply = opened-not-reply h (lookupOf (OfSaid said) xs) address said number write answered
+
+module _ (h : HeadEnd) (xs : List Assoc) (direction address said : ℕ) (number : TekNumber) (frame write : List ℕ) (lent invalid : ℕ) where
+  abbrev answered-frame : Answer
+  answered-frame =
+      openFrameAnswer h (firstOf (outOfLimits h) xs) (length xs) (lookupOf (OfSaid said) xs) direction address said number (messageKeyFits write) (length frame) lent invalid
+
+  pub open-frame-same : SameButCounts h (openFrameOf h xs direction address said number frame write lent invalid .opened .state)
+  unfolding openedFrameWith
+  open-frame-same = opened-same h (lookupOf (OfSaid said) xs) address said number write answered-frame
+
+  pub invalid-frame-not-reply : codeOf (openFrameOf h xs direction address said number frame write lent invalid .opened .invalid) ≡ 8 → ⊥
+  unfolding openedFrameWith
+  invalid-frame-not-reply = opened-not-reply h (lookupOf (OfSaid said) xs) address said number write answered-frame
 
 -- ---- what `receive` writes: the first octet is the answer's code
 octets-code : (f : Fields) (auth write : List ℕ) → codeOf (answerOctets f auth write) ≡ f .code

@@ -182,7 +182,7 @@ module _ (h : HeadEnd) (xs : List Assoc) (address said : ℕ) (number : TekNumbe
     abbrev ours : Bool
     ours = isOwn (knownOf h address) said
 
-    held-suits : heldSuits h (length xs) looked (knownOf h address) said ≡ true
+    pub held-suits : heldSuits h (length xs) looked (knownOf h address) said ≡ true
     unfolding heldSuits
     held-suits = go ours refl
       where

@@ -14,5 +14,6 @@ pub mod FoundLaws
 pub mod ReplyLaws
 pub mod SecondLaws
 pub mod FrameLaws
+pub mod OctetFrameLaws
 pub mod FrameAnswers
 pub mod AnyIdentifier

@@ -45,7 +45,7 @@ use Rattle.headend_frames.specs.FrameCalled.{openCalled, Openable}
 
 -- ---- what the passed questions say
 module _ (h : HeadEnd) (bad len : ℕ) (s : Found) (address said : ℕ) where
-  said-small : frameFits h bad len s address said ≡ true → said ≤ 16383
+  pub said-small : frameFits h bad len s address said ≡ true → said ≤ 16383
   unfolding frameFits
   said-small e =
       let a₂ = both (stateFits h && recordsFit h bad len && addressFits address && saidFits said) (heldSuits h len s (knownOf h address) said) e in

@@ -1,4 +1,5 @@
 pub mod FrameQuestions
 pub mod Frames
 pub mod FrameCalled
+pub mod OctetFrames
 pub mod FrameCalls

@@ -31,8 +31,8 @@ use questions::refusal::NO_KEY_FOR_FRAME;
 use questions::refusal::answer_number;
 use questions::refusal::is_done;
 
-// What opening hands back: the answer, the head-end after it, how many octets of TEK and of vector were written, and how many of a
-// TEK Invalid.
+// What opening hands back: the answer, the head-end after it, how many octets of TEK and of vector, or of the frame, were written, and how many
+// of a TEK Invalid.
 pub struct OpenedCall {
     pub answer: Answer,
     pub state: HeadEnd,
@@ -40,7 +40,7 @@ pub struct OpenedCall {
     pub count: usize,
 }
 
-fn opened_call(a: Answer, h: HeadEnd, width: usize, count: usize) -> OpenedCall
+pub fn opened_call(a: Answer, h: HeadEnd, width: usize, count: usize) -> OpenedCall
     ensures { λ r. ⌜ r ≡ record { answer = a; state = h; width = width; count = count } ⌝ }
 {
     OpenedCall {
@@ -52,7 +52,7 @@ fn opened_call(a: Answer, h: HeadEnd, width: usize, count: usize) -> OpenedCall
 }
 
 // A TEK Invalid to the modem of that address, where one of its authorization keys is active; how many octets is handed back.
-fn put_invalid(h: HeadEnd, address: u64, said: u16, write_key: &[u8], out: &mut [u8]) -> usize
+pub fn put_invalid(h: HeadEnd, address: u64, said: u16, write_key: &[u8], out: &mut [u8]) -> usize
     requires { ⌜ (said ≤ 16383) × (length (now «write_key») ≡ 20) × (40 ≤ length (now out)) ⌝ }
     ensures { λ n. ⌜ (n ≡ length (invalidOctets h (knownOf h address) said (now («write_key» .entry))))
         × (now (out .exit) ≡ overlay (now (out .entry)) (invalidOctets h (knownOf h address) said (now («write_key» .entry)))) ⌝ }

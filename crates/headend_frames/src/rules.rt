@@ -32,7 +32,7 @@ use questions::refusal::UNKNOWN_SAID;
 use questions::refusal::ask;
 
 // Question 10: the SAID is this modem's.
-fn is_own(k: Known, said: u16) -> bool
+pub fn is_own(k: Known, said: u16) -> bool
     ensures { λ r. ⌜ r ≡ isOwn k said ⌝ }
 {
     let e = k.entry;
@@ -41,7 +41,7 @@ fn is_own(k: Known, said: u16) -> bool
 }
 
 // Question 13, of the decision on the two keys that are held.
-fn held_answer(older: TrafficKey, newer: TrafficKey, number: TekNumber, clock: u64) -> Answer
+pub fn held_answer(older: TrafficKey, newer: TrafficKey, number: TekNumber, clock: u64) -> Answer
     ensures { λ a. ⌜ a ≡ firstNo (record { refusal = NoKeyForFrame; met = opens (openingOf clock number older newer) } ∷ []) ⌝ }
 {
     let by = decide(older, newer, number, clock);
@@ -59,7 +59,7 @@ fn held_suits(h: HeadEnd, len: usize, s: Found, k: Known, said: u16) -> bool
 }
 
 // Question 1 of a frame's address and SAID.
-fn frame_fits(h: HeadEnd, bad: usize, len: usize, s: Found, address: u64, said: u16) -> bool
+pub fn frame_fits(h: HeadEnd, bad: usize, len: usize, s: Found, address: u64, said: u16) -> bool
     ensures { λ r. ⌜ r ≡ frameFits h bad len s address said ⌝ }
 {
     let k = entry_of(h, address);

@@ -10,7 +10,8 @@ use crate::octets::put;
 use crate::traffic::TrafficKey;
 use questions::refusal::Answer;
 
-// What sealing hands back: the answer, the key's number, and how many octets of TEK and of vector were written; 0 where it is refused.
+// What sealing hands back: the answer, the key's number, and how many octets of TEK and of vector, or of the frame, were written; 0 where it is
+// refused.
 pub struct SealedCall {
     pub answer: Answer,
     pub number: TekNumber,

@@ -38,7 +38,7 @@ use Rattle.modem_frames.specs.FrameCalled.{openedCall, openCalled, known
 use Rattle.modem_calls.proofs.OutLaws.{out-wider}
 use Rattle.modem_calls.proofs.SentLaws.{sends-none, deliver-sends}
 use Rattle.modem_calls.proofs.SentFits.{fits-sayable}
-use Rattle.modem_frames.proofs.FrameLaws.{frameIn, slicesLong, isHere}
+use Rattle.modem_frames.proofs.FrameLaws.{frameIn, slicesLong, isHere, frame-fits}
 use Rattle.modem_frames.proofs.MachineLaws.{machine-known, seal-asked, open-asked}
 
 -- ---- what the answers say of the four questions
@@ -57,14 +57,7 @@ asks-13 last true false c d e = absurd (omega arith)
 asks-13 last true true false d e = absurd (omega arith)
 asks-13 last true true true d e = (refl, refl, refl)
 
--- question 1 says that the modem is within its limits, question 2 how long the slices are
-frame-fits : (m : Modem) (direction address said : ℕ) (number : TekNumber) → frameIn m direction address said number ≡ true → modemFits m ≡ true
-frame-fits m direction address said number e =
-    let s₄ = both (modemFits m && eqb direction 1 && ltb address 281474976710656 && leb said 16383) (tekInRange number) e in
-    let s₃ = both (modemFits m && eqb direction 1 && ltb address 281474976710656) (leb said 16383) (s₄ .0) in
-    let s₂ = both (modemFits m && eqb direction 1) (ltb address 281474976710656) (s₃ .0) in
-    both (modemFits m) (eqb direction 1) (s₂ .0) .0
-
+-- question 2 says how long the slices are
 slices-long : (write : List ℕ) (tek vector lent : ℕ) → slicesLong write tek vector lent ≡ true → (16 ≤ tek) × (16 ≤ vector) × (216 ≤ lent) × (length write ≡ 20)
 slices-long write tek vector lent e =
     let s₃ = both (messageKeyFits write && leb 16 tek && leb 16 vector) (leb 216 lent) e in
@@ -149,11 +142,11 @@ module _ (m : Modem) (said : ℕ) where
     eo ∙ ap (λ (x : Progress). overlay out (outOctets key (x .out))) er,
   )
 
-  opened-13 : (number : TekNumber) (key : List ℕ) (a : Answer) → answerNumber a ≡ 13 → missed true a m said key ≡ openedFor a m said number key
+  pub opened-13 : (number : TekNumber) (key : List ℕ) (a : Answer) → answerNumber a ≡ 13 → missed true a m said key ≡ openedFor a m said number key
   opened-13 number key Done e = absurd (omega arith)
   opened-13 number key (Refused r) e = ap (λ (b : Bool). missed b (Refused r) m said key) (sym (eq-eqb (answerNumber (Refused r)) 13 e))
 
-  opened-other : (number : TekNumber) (key : List ℕ) (a : Answer) → (answerNumber a ≡ 13 → ⊥) → (answerNumber a ≡ 0 → ⊥)
+  pub opened-other : (number : TekNumber) (key : List ℕ) (a : Answer) → (answerNumber a ≡ 13 → ⊥) → (answerNumber a ≡ 0 → ⊥)
       → missed false a m said key ≡ openedFor a m said number key
   opened-other number key Done e z = absurd (z refl)
   opened-other number key (Refused r) e z = ap (λ (b : Bool). missed b (Refused r) m said key) (sym (ne-eqb (answerNumber (Refused r)) 13 e))

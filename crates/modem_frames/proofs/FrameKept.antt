@@ -1,103 +1,70 @@
 -- What an opening keeps of the modem, and every call's keeping of the limits; the clock call's answer.
 use mathlib.Core.Path.{_≡_, refl, sym, _∙_, ap}
-use mathlib.Core.Bool.{Bool, true, false, _&&_, _||_, cond}
+use mathlib.Core.Bool.{true, _&&_, cond}
 use mathlib.Core.List.{List}
 use Prim.Native.Nat.{ℕ}
-use lib.Dec.{leb, eqb}
+use lib.Dec.{leb}
+use lib.ListN.{length}
 use Rattle.key_traffic.specs.declared.numbers.TekNumber.{TekNumber}
 use Rattle.questions.specs.declared.refusal.Answer.{Answer}
 use Rattle.questions.specs.declared.refusal.Answer.the-variants.{Done, Refused}
 use Rattle.questions.specs.declared.refusal.Refusal.the-variants.{WrongLength, ClockOutOfOrder}
-use Rattle.key_traffic.specs.Sealing.{oneMore}
-use Rattle.questions.proofs.TestLaws.{both}
 use Rattle.message_digest.specs.Digest.{messageKeyFits}
 use Rattle.modem_tek.specs.declared.parts.Pair.{Pair}
 use Rattle.modem_steps.specs.declared.state.Modem.{Modem}
-use Rattle.modem_steps.specs.State.{starting}
-use Rattle.modem_steps.specs.Slots.{deliver, slotOfSaid}
-use Rattle.modem_receive.specs.Receive.{isKnown}
 use Rattle.modem_steps.specs.Clock.{clocked}
-use Rattle.modem_limits.specs.Limits.{slotFits, modemFits}
+use Rattle.modem_limits.specs.Limits.{modemFits}
 use Rattle.modem_calls.specs.Calls.{establishedOf, reauthOf, clockFits, clockAnswer, clockOf, receiveOf}
-use Rattle.modem_frames.specs.FrameRules.{withCounts, countedBy}
-use Rattle.modem_frames.specs.Frames.{openOf}
-use Rattle.modem_limits.proofs.LimitsLaws.{limits-of, fits-by}
-use Rattle.modem_calls.proofs.KeptSteps.{plain-deliver-kept}
 use Rattle.modem_calls.proofs.ModemRows.{answer-of}
 use Rattle.modem_calls.proofs.CallLaws.{established-good, reauth-good, clock-good, receive-good}
-use Rattle.modem_calls.proofs.PairSteps.{AllPairs, SameRest, starting-carries, deliver-carries}
-use Rattle.modem_frames.proofs.FrameLaws.{known-inside, open-by}
-
--- ---- counting changes the counts alone
-counted-by : (P : Modem → Type 0) (n : ℕ) (m : Modem) → P m → ((taken refused : ℕ) → P (withCounts m taken refused)) → P (countedBy n m)
-unfolding countedBy
-counted-by P n m same new = go (eqb n 0) (eqb n 10 || eqb n 13)
-  where
-    go : (a b : Bool) → P (cond a (withCounts m (oneMore (m .taken)) (m .refused)) (cond b (withCounts m (m .taken) (oneMore (m .refused))) m))
-    go true b = new (oneMore (m .taken)) (m .refused)
-    go false true = new (m .taken) (oneMore (m .refused))
-    go false false = same
-
--- the modem after event 5 at the SAID's slot
-abbrev missedAt : Modem → ℕ → Modem
-missedAt m said = deliver (starting m) (slotOfSaid m said) 5 .modem
-
--- ---- settings, address, own SAID and clock are the same
-pub record SameButCounts (m n : Modem) : Type 0 where
-  pub settings : n .settings ≡ m .settings
-  pub address : n .address ≡ m .address
-  pub said : n .said ≡ m .said
-  pub clock : n .clock ≡ m .clock
-
-counted-same : (m n : Modem) (k : ℕ) → SameButCounts m n → SameButCounts m (countedBy k n)
-counted-same m n k s =
-    counted-by (SameButCounts m) k n s (λ taken refused. record { settings = s .settings; address = s .address; said = s .said; clock = s .clock })
-
-counted-pairs : (Q : ℕ → ℕ → Pair → Type 0) (k : ℕ) (m : Modem) → AllPairs Q m → AllPairs Q (countedBy k m)
-counted-pairs Q k m p = counted-by (AllPairs Q) k m p (λ taken refused. p)
-
-counted-fits : (k : ℕ) (m : Modem) → modemFits m ≡ true → modemFits (countedBy k m) ≡ true
-unfolding modemFits slotFits
-counted-fits k m e = counted-by (λ n. modemFits n ≡ true) k m e (λ taken refused. e)
-
-abbrev Any : ℕ → ℕ → Pair → Type 0
-Any said suite p = Unit {0}
-
--- event 5 at a slot keeps the limits
-missed-fits : (m : Modem) (said : ℕ) → modemFits m ≡ true → isKnown m said ≡ true → modemFits (missedAt m said) ≡ true
-missed-fits m said e known =
-    fits-by (missedAt m said) (plain-deliver-kept (starting m) (slotOfSaid m said) 5 (known-inside m said known .1) refl refl (limits-of m e))
+use Rattle.modem_calls.proofs.PairSteps.{AllPairs}
+use Rattle.modem_frames.specs.Frames.{openAnswer, openOf}
+use Rattle.modem_frames.specs.OctetFrames.{openFrameAnswer, openFrameOf}
+use Rattle.modem_frames.proofs.FrameLaws.{open-13}
+use Rattle.modem_frames.proofs.OctetLaws.{open-frame-13}
+use Rattle.modem_frames.proofs.OpenedLaws.{SameButCounts, Counted, opened-pairs, opened-keeps, opened-fits, opened-counted}
 
 -- ---- after an opening, whatever its answer
 module _ (m : Modem) (direction address said : ℕ) (number : TekNumber) (write : List ℕ) (tek vector lent : ℕ) where
+  abbrev answered : Answer
+  answered = openAnswer m direction address said number write tek vector lent
+
   pub open-pairs : (Q : ℕ → ℕ → Pair → Type 0) → AllPairs Q m → AllPairs Q (openOf m direction address said number write tek vector lent .modem)
-  open-pairs Q p =
-      open-by m direction address said number write tek vector lent (λ o. AllPairs Q (o .modem))
-      (λ e. counted-pairs Q 1 m p)
-      (λ e. counted-pairs Q 2 m p)
-      (λ e. counted-pairs Q 10 m p)
-      (λ i h e. counted-pairs Q 13 (missedAt m said) (deliver-carries Q m (starting m) (slotOfSaid m said) 5 refl (starting-carries Q m p) .pairs))
-      (λ i h e. counted-pairs Q 0 m p)
+  unfolding openOf
+  open-pairs Q p = opened-pairs m said number write answered Q p
 
   pub open-keeps : SameButCounts m (openOf m direction address said number write tek vector lent .modem)
-  open-keeps =
-      let same : SameButCounts m m = record { settings = refl; address = refl; said = refl; clock = refl } in
-      let r : SameRest m (missedAt m said) = deliver-carries Any m (starting m) (slotOfSaid m said) 5 refl (starting-carries Any m (λ i h q. tt)) .rest in
-      open-by m direction address said number write tek vector lent (λ o. SameButCounts m (o .modem))
-      (λ e. counted-same m m 1 same)
-      (λ e. counted-same m m 2 same)
-      (λ e. counted-same m m 10 same)
-      (λ i h e. counted-same m (missedAt m said) 13 (record { settings = r .settings; address = r .address; said = r .said; clock = r .clock }))
-      (λ i h e. counted-same m m 0 same)
+  unfolding openOf
+  open-keeps = opened-keeps m said number write answered
 
   pub open-fits : modemFits m ≡ true → modemFits (openOf m direction address said number write tek vector lent .modem) ≡ true
-  open-fits fits =
-      open-by m direction address said number write tek vector lent (λ o. modemFits (o .modem) ≡ true)
-      (λ e. counted-fits 1 m fits)
-      (λ e. counted-fits 2 m fits)
-      (λ e. counted-fits 10 m fits)
-      (λ i h e. counted-fits 13 (missedAt m said) (missed-fits m said fits (both (eqb address (m .address)) (isKnown m said) h .1)))
-      (λ i h e. counted-fits 0 m fits)
+  unfolding openOf
+  open-fits fits = opened-fits m said number write answered (open-13 m direction address said number write tek vector lent) fits
+
+  pub open-counts : Counted m (openOf m direction address said number write tek vector lent)
+  unfolding openOf
+  open-counts = opened-counted m said number write answered
+
+-- ---- the same where octets are opened
+module _ (m : Modem) (direction address said : ℕ) (number : TekNumber) (frame write : List ℕ) (lent messages : ℕ) where
+  abbrev answered-frame : Answer
+  answered-frame = openFrameAnswer m direction address said number write (length frame) lent messages
+
+  pub open-frame-pairs : (Q : ℕ → ℕ → Pair → Type 0) → AllPairs Q m → AllPairs Q (openFrameOf m direction address said number frame write lent messages .opened .modem)
+  unfolding openFrameOf
+  open-frame-pairs Q p = opened-pairs m said number write answered-frame Q p
+
+  pub open-frame-keeps : SameButCounts m (openFrameOf m direction address said number frame write lent messages .opened .modem)
+  unfolding openFrameOf
+  open-frame-keeps = opened-keeps m said number write answered-frame
+
+  pub open-frame-fits : modemFits m ≡ true → modemFits (openFrameOf m direction address said number frame write lent messages .opened .modem) ≡ true
+  unfolding openFrameOf
+  open-frame-fits fits = opened-fits m said number write answered-frame (open-frame-13 m direction address said number write (length frame) lent messages) fits
+
+  pub open-frame-counts : Counted m (openFrameOf m direction address said number frame write lent messages .opened)
+  unfolding openFrameOf
+  open-frame-counts = opened-counted m said number write answered-frame
 
 -- ---- the other calls keep the limits, whatever their answer
 module _ (m : Modem) (lent : ℕ) where

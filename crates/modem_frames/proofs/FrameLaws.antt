@@ -1,4 +1,4 @@
--- What a frame that is sealed or opened says of the modem's slots, and the counts of frames.
+-- What a frame that is sealed or opened says of the modem's slots.
 use mathlib.Core.Path.{_≡_, refl, sym, _∙_, ap}
 use mathlib.Core.Bool.{Bool, true, false, _&&_, cond}
 use mathlib.Core.Logic.{_⊎_, inl, inr}
@@ -22,7 +22,7 @@ use Rattle.questions.specs.Refusal.{answerNumber}
 use Rattle.key_traffic.specs.Traffic.{keyFits, pairFits}
 use Rattle.key_traffic.specs.declared.frame.Opening.{Opening}
 use Rattle.key_traffic.specs.Frame.{openingKey, opens}
-use Rattle.key_traffic.specs.Sealing.{keyOut, keyOutOf, sealedFor, oneMore}
+use Rattle.key_traffic.specs.Sealing.{keyOut, keyOutOf, sealedFor}
 use Rattle.key_traffic.proofs.FrameLaws.{opening-key}
 use Rattle.questions.proofs.TestLaws.{both}
 use Rattle.questions.proofs.AnswerLaws.{done-met}
@@ -32,10 +32,9 @@ use Rattle.modem_tek.specs.declared.parts.Pair.{Pair}
 use Rattle.modem_transitions.specs.Transitions.{D}
 use Rattle.modem_steps.specs.declared.state.Modem.{Modem}
 use Rattle.modem_steps.specs.State.{slotAt}
-use Rattle.modem_steps.specs.Slots.{steppedAt, deliverReply, slotOfSaid}
+use Rattle.modem_steps.specs.Slots.{slotOfSaid}
 use Rattle.modem_receive.specs.Receive.{isKnown}
 use Rattle.modem_limits.specs.Limits.{keyZero, pairHeldFits, modemFits}
-use Rattle.modem_frames.specs.FrameRules.{countedBy}
 use Rattle.modem_frames.proofs.RuleLaws.{opens-held}
 use Rattle.modem_frames.specs.Frames.{machineOf, sealAsked, openAsked, canSeal, sealAnswer, sealOf, canOpen, openAnswer, ModemOpened, openedFor, openOf}
 use Rattle.modem_limits.proofs.LimitsLaws.{limits-of, tek-in}
@@ -91,11 +90,11 @@ pub record SealFacts (m : Modem) (said tek vector : ℕ) : Type 0 where
   pub range : said ≤ 16383
   pub number-range : tekInRange (sealOf m said tek vector .number) ≡ true
 
-sealed-done : (a : Answer) (w : ℕ) (k : TrafficKey) → sealedFor a w k .answer ≡ Done → a ≡ Done
+pub sealed-done : (a : Answer) (w : ℕ) (k : TrafficKey) → sealedFor a w k .answer ≡ Done → a ≡ Done
 sealed-done Done w k e = refl
 sealed-done (Refused r) w k e = e
 
-refused-not : {A : Type 0} (r : Refusal) → Refused r ≡ Done → A
+pub refused-not : {A : Type 0} (r : Refusal) → Refused r ≡ Done → A
 refused-not r e = let z : _≡_ {A = ℕ} 0 1 = cc in absurd (omega arith)
 
 abbrev sealQuestions : Modem → ℕ → ℕ → ℕ → List Question
@@ -143,6 +142,14 @@ slicesLong write tek vector lent = messageKeyFits write && leb 16 tek && leb 16 
 
 abbrev pub isHere : Modem → ℕ → ℕ → Bool
 isHere m address said = eqb address (m .address) && isKnown m said
+
+-- question 1 says that the modem is within its limits
+pub frame-fits : (m : Modem) (direction address said : ℕ) (number : TekNumber) → frameIn m direction address said number ≡ true → modemFits m ≡ true
+frame-fits m direction address said number e =
+    let s₄ = both (modemFits m && eqb direction 1 && ltb address 281474976710656 && leb said 16383) (tekInRange number) e in
+    let s₃ = both (modemFits m && eqb direction 1 && ltb address 281474976710656) (leb said 16383) (s₄ .0) in
+    let s₂ = both (modemFits m && eqb direction 1) (ltb address 281474976710656) (s₃ .0) in
+    both (modemFits m) (eqb direction 1) (s₂ .0) .0
 
 module _ (m : Modem) (direction address said : ℕ) (number : TekNumber) (write : List ℕ) (tek vector lent : ℕ) where
   -- what holds of each answer's opening holds of the opening
@@ -222,21 +229,17 @@ open-cases m address said number write tek vector lent fits below small range k 
     (λ i h e. inr (inl refl))
     (λ i h e. inr (inr (opened-facts m address said number write h e)))
 
--- ---- the counts
-pub record Counted (m : Modem) (o : ModemOpened) : Type 0 where
-  pub done : o .answer ≡ Done → (o .modem .taken ≡ oneMore (m .taken)) × (o .modem .refused ≡ m .refused)
-  pub unknown : answerNumber (o .answer) ≡ 10 → (o .modem .taken ≡ m .taken) × (o .modem .refused ≡ oneMore (m .refused))
-  pub no-key : answerNumber (o .answer) ≡ 13 → (o .modem .taken ≡ m .taken) × (o .modem .refused ≡ oneMore (m .refused))
-  pub other : (answerNumber (o .answer) ≡ 0 → ⊥) → (answerNumber (o .answer) ≡ 10 → ⊥) → (answerNumber (o .answer) ≡ 13 → ⊥)
-      → (o .modem .taken ≡ m .taken) × (o .modem .refused ≡ m .refused)
-
-pub opened-counts : (m : Modem) (direction address said : ℕ) (number : TekNumber) (write : List ℕ) (tek vector lent : ℕ)
-    → Counted m (openOf m direction address said number write tek vector lent)
-unfolding countedBy deliverReply steppedAt
-opened-counts m direction address said number write tek vector lent =
-    open-by m direction address said number write tek vector lent (Counted m)
-    (λ e. record { done = refused-not OutOfLimits; unknown = λ q. absurd (omega arith); no-key = λ q. absurd (omega arith); other = λ a b c. (refl, refl) })
-    (λ e. record { done = refused-not WrongLength; unknown = λ q. absurd (omega arith); no-key = λ q. absurd (omega arith); other = λ a b c. (refl, refl) })
-    (λ e. record { done = refused-not UnknownSaid; unknown = λ q. (refl, refl); no-key = λ q. absurd (omega arith); other = λ a b c. absurd (b refl) })
-    (λ i h e. record { done = refused-not NoKeyForFrame; unknown = λ q. absurd (omega arith); no-key = λ q. (refl, refl); other = λ a b c. absurd (c refl) })
-    (λ i h e. record { done = λ d. (refl, refl); unknown = λ q. absurd (omega arith); no-key = λ q. absurd (omega arith); other = λ a b c. absurd (a refl) })
+-- 13 is answered within the limits, for a SAID that is known
+pub open-13 : (m : Modem) (direction address said : ℕ) (number : TekNumber) (write : List ℕ) (tek vector lent : ℕ)
+    → answerNumber (openAnswer m direction address said number write tek vector lent) ≡ 13 → (modemFits m ≡ true) × (isKnown m said ≡ true)
+unfolding openAnswer openAsked
+open-13 m direction address said number write tek vector lent =
+    go (frameIn m direction address said number) refl (slicesLong write tek vector lent) (isHere m address said) refl (canOpen m said number)
+  where
+    go : (a : Bool) → frameIn m direction address said number ≡ a → (b c : Bool) → isHere m address said ≡ c → (d : Bool)
+        → answerNumber (cond a (cond b (cond c (cond d Done (Refused NoKeyForFrame)) (Refused UnknownSaid)) (Refused WrongLength)) (Refused OutOfLimits)) ≡ 13
+        → (modemFits m ≡ true) × (isKnown m said ≡ true)
+    go false ea b c ec d e = absurd (omega (arith, e))
+    go true ea false c ec d e = absurd (omega (arith, e))
+    go true ea true false ec d e = absurd (omega (arith, e))
+    go true ea true true ec d e = (frame-fits m direction address said number ea, both (eqb address (m .address)) (isKnown m said) ec .1)

@@ -1,3 +1,4 @@
 pub mod FrameRules
 pub mod Frames
 pub mod FrameCalled
+pub mod OctetFrames

@@ -44,7 +44,7 @@ use questions::refusal::ask;
 use questions::refusal::is_done;
 
 // The machine of a SAID; one that holds nothing where the SAID is not known.
-fn machine_of(m: Modem, said: u16) -> Tek
+pub fn machine_of(m: Modem, said: u16) -> Tek
     ensures { λ r. ⌜ r ≡ knownMachine m said ⌝ }
 {
     let i = slot_of_said(m, said);
@@ -54,7 +54,7 @@ fn machine_of(m: Modem, said: u16) -> Tek
     m.teks[i]
 }
 
-fn is_known(m: Modem, said: u16) -> bool
+pub fn is_known(m: Modem, said: u16) -> bool
     ensures { λ r. ⌜ r ≡ isKnown m said ⌝ }
 {
     slot_of_said(m, said) < NO_SLOT
@@ -127,7 +127,7 @@ fn put_machine_out(
     put_opened(by, w, older, newer, tek, vector)
 }
 
-fn opened_call(answer: Answer, modem: Modem, width: usize, count: usize) -> OpenedCall
+pub fn opened_call(answer: Answer, modem: Modem, width: usize, count: usize) -> OpenedCall
     ensures { λ c. ⌜ c ≡ openedCall answer modem width count ⌝ }
 {
     OpenedCall {
@@ -139,7 +139,7 @@ fn opened_call(answer: Answer, modem: Modem, width: usize, count: usize) -> Open
 }
 
 // Refused with 13: the SAID's machine takes event 5, and what it sends is written.
-fn missing(m: Modem, said: u16, a: Answer, write_key: &[u8], out: &mut [u8]) -> OpenedCall
+pub fn missing(m: Modem, said: u16, a: Answer, write_key: &[u8], out: &mut [u8]) -> OpenedCall
     requires { ⌜ (modemFits m ≡ true) × ((isKnown m said ≡ true) × ((length (now «write_key») ≡ 20) × (216 ≤ length (now out)))) ⌝ }
     ensures { λ c. ⌜ (c ≡ openCalled (missed true a m said (now («write_key» .entry))))
         × (now (out .exit) ≡ overlay (now (out .entry)) (missed true a m said (now («write_key» .entry)) .sent)) ⌝ }

@@ -14,7 +14,8 @@ use questions::refusal::DONE;
 use questions::refusal::NO_KEY_FOR_FRAME;
 use questions::refusal::UNKNOWN_SAID;
 
-// What `open` hands back: the answer, the modem after it, how many octets of TEK and of vector were written, and how many of messages.
+// What opening hands back: the answer, the modem after it, how many octets of TEK and of vector, or of the frame, were written, and how many of
+// messages.
 pub struct OpenedCall {
     pub answer: Answer,
     pub modem: Modem,

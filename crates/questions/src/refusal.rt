@@ -1,11 +1,11 @@
-// What a call answers: done, or refused by one of the 14 questions, and document 01's number of each.
+// What a call answers: done, or refused by one of the questions, and the number of each.
 ghost use mathlib.Core.Path.{_≡_};
 ghost use mathlib.Core.Bool.{cond};
 ghost use Rattle.questions.specs.declared.refusal.Answer.the-variants.{Refused};
 ghost use Rattle.questions.specs.Questions.{answerThen};
 ghost use Rattle.questions.specs.Refusal.{numberOf, answerNumber, isDone, earliest};
 
-// The 14 refusals, in the order of document 01's questions.
+// The refusals: 14 in the order of document 01's questions, then document 02's 15 (M-103).
 pub enum Refusal {
     OutOfLimits,
     WrongLength,
@@ -21,9 +21,10 @@ pub enum Refusal {
     DigestFails,
     NoKeyForFrame,
     NoKeyToSeal,
+    ShortFrame,
 }
 
-// Document 01's number of a refusal.
+// The number of a refusal.
 pub fn number(r: Refusal) -> u8
     ensures { λ n. ⌜ n ≡ numberOf r ⌝ }
 {
@@ -42,6 +43,7 @@ pub fn number(r: Refusal) -> u8
         Refusal::DigestFails => 12,
         Refusal::NoKeyForFrame => 13,
         Refusal::NoKeyToSeal => 14,
+        Refusal::ShortFrame => 15,
     }
 }
 

@@ -7,6 +7,7 @@ use native.Mathlib.Omega.{arith}
 use lib.ListN.{length, set}
 use Rattle.key_traffic.specs.Octets.{overlay}
 use Rattle.replay_read.specs.declared.setup.ReadModem.{ReadModem}
+use Rattle.replay_answer.specs.Answer.{answerLine}
 use Rattle.replay_apply.specs.declared.ends.Ends.{Ends}
 use Rattle.replay.specs.declared.start.Stage.{Stage}
 use Rattle.replay.specs.declared.start.Stage.the-variants.{Stopped}
@@ -17,14 +18,14 @@ use Rattle.replay.specs.Replay.{bothFit, startText, limitsText, modemTex
 use Rattle.replay.specs.Takes.{Takes}
 
 -- Two octets put at the front
-pub two-put : (a b : ℕ) (out : List ℕ) → 1024 ≤ length out → set (set out 0 a) 1 b ≡ overlay out (a ∷ b ∷ [])
+pub two-put : (a b : ℕ) (out : List ℕ) → answerLine ≤ length out → set (set out 0 a) 1 b ≡ overlay out (a ∷ b ∷ [])
 two-put a b [] h = absurd (omega arith)
 two-put a b (x ∷ []) h = absurd (omega arith)
 two-put a b (x ∷ y ∷ l) h = refl
 
 -- ---- what is written for it
 abbrev Says : List ℕ → List ℕ → ℕ → List ℕ → Type 0
-Says text out n after = ((n ≡ length text) × (after ≡ overlay out text)) × (n ≤ 1024)
+Says text out n after = ((n ≡ length text) × (after ≡ overlay out text)) × (n ≤ answerLine)
 
 pub start-refused : (form : Bool) (n : ℕ) (out after : List ℕ) → form ≡ false → n ≡ 2 → after ≡ overlay out noCallText → Says (startText form) out n after
 start-refused form n out after h p q = subst (λ b. Says (startText b) out n after) (sym h) ((p, q), omega (arith, p))
@@ -60,7 +61,7 @@ taken-none s line out r e =
     }
 
 abbrev Ended : Stage → Ends → List ℕ → ℕ → List ℕ → Type 0
-Ended k e out n after = (n ≡ length (endTextAt k e)) × ((after ≡ overlay out (endTextAt k e)) × (n ≤ 1024))
+Ended k e out n after = (n ≡ length (endTextAt k e)) × ((after ≡ overlay out (endTextAt k e)) × (n ≤ answerLine))
 
 pub ended-at : (s : Replay) (out after : List ℕ) (n : ℕ) (k : Stage) → s .stage ≡ k → Ended k (s .ends) out n after → Ended (s .stage) (s .ends) out n after
 ended-at s out after n k h x = subst (λ (z : Stage). Ended z (s .ends) out n after) (sym h) x

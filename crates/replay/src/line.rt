@@ -2,6 +2,7 @@
 ghost use mathlib.Core.Path.{_≡_};
 ghost use Prim.Native.Nat.{_≤_};
 ghost use lib.ListN.{length};
+ghost use Rattle.replay_answer.specs.Answer.{answerLine};
 ghost use Rattle.replay.specs.declared.start.Stage.the-variants.{Running};
 ghost use Rattle.replay.specs.Takes.{Takes};
 use crate::lines::Taken;
@@ -14,7 +15,7 @@ use crate::start::Stage;
 use crate::turn::turn;
 
 fn take_call(s: Replay, line: &[u8], out: &mut [u8]) -> Taken
-    requires { ⌜ 1024 ≤ length (now out) ⌝ }
+    requires { ⌜ answerLine ≤ length (now out) ⌝ }
     ensures { λ r. ⌜ Takes Running s (now (line .entry)) (now (out .entry)) r (now (out .exit)) ⌝ }
 {
     let settings = s.settings;
@@ -43,7 +44,7 @@ fn take_none(s: Replay) -> Taken
 
 // A line, without its line feed: the run after it, and what is answered to it at the front of `out`.
 pub fn take_line(s: Replay, line: &[u8], out: &mut [u8]) -> Taken
-    requires { ⌜ 1024 ≤ length (now out) ⌝ }
+    requires { ⌜ answerLine ≤ length (now out) ⌝ }
     ensures { λ r. ⌜ Takes (s .stage) s (now (line .entry)) (now (out .entry)) r (now (out .exit)) ⌝ }
 {
     let stage = s.stage;

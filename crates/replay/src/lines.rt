@@ -4,6 +4,7 @@ ghost use mathlib.Core.Bool.{cond};
 ghost use Prim.Native.Nat.{_≤_};
 ghost use lib.ListN.{length};
 ghost use Rattle.key_traffic.specs.Octets.{overlay};
+ghost use Rattle.replay_answer.specs.Answer.{answerLine};
 ghost use Rattle.replay.specs.declared.start.Stage.the-variants.{SettingsNames, SettingsValues, ModemNames, ModemValues, Running, Stopped};
 ghost use Rattle.replay.specs.Turn.{noCallText};
 ghost use Rattle.replay.specs.Replay.{startText, limitsText, modemText, endTextAt, endText};
@@ -34,7 +35,7 @@ pub struct Taken {
 
 // "?" and a line feed.
 pub fn put_no_call(out: &mut [u8]) -> usize
-    requires { ⌜ 1024 ≤ length (now out) ⌝ }
+    requires { ⌜ answerLine ≤ length (now out) ⌝ }
     ensures { λ r. ⌜ (r ≡ 2) × (now (out .exit) ≡ overlay (now (out .entry)) noCallText) ⌝ }
 {
     out[0] = b'?';
@@ -44,9 +45,9 @@ pub fn put_no_call(out: &mut [u8]) -> usize
 
 // A line of set-up answers nothing where it has its form.
 fn put_start(form: bool, out: &mut [u8]) -> usize
-    requires { ⌜ 1024 ≤ length (now out) ⌝ }
+    requires { ⌜ answerLine ≤ length (now out) ⌝ }
     ensures { λ r. ⌜ (r ≡ length (startText form)) × (now (out .exit) ≡ overlay (now (out .entry)) (startText form)) ⌝ }
-    ensures { λ r. ⌜ r ≤ 1024 ⌝ }
+    ensures { λ r. ⌜ r ≤ answerLine ⌝ }
 {
     if form {
         return 0;
@@ -56,7 +57,7 @@ fn put_start(form: bool, out: &mut [u8]) -> usize
 
 // "1" and a line feed.
 fn put_limits(out: &mut [u8]) -> usize
-    requires { ⌜ 1024 ≤ length (now out) ⌝ }
+    requires { ⌜ answerLine ≤ length (now out) ⌝ }
     ensures { λ r. ⌜ (r ≡ 2) × (now (out .exit) ≡ overlay (now (out .entry)) limitsText) ⌝ }
 {
     out[0] = b'1';
@@ -65,9 +66,9 @@ fn put_limits(out: &mut [u8]) -> usize
 }
 
 fn put_modem(r: ReadModem, s: Replay, out: &mut [u8]) -> usize
-    requires { ⌜ 1024 ≤ length (now out) ⌝ }
+    requires { ⌜ answerLine ≤ length (now out) ⌝ }
     ensures { λ n. ⌜ (n ≡ length (modemText r s)) × (now (out .exit) ≡ overlay (now (out .entry)) (modemText r s)) ⌝ }
-    ensures { λ n. ⌜ n ≤ 1024 ⌝ }
+    ensures { λ n. ⌜ n ≤ answerLine ⌝ }
 {
     let settings = s.settings;
     if !r.is_form {
@@ -90,7 +91,7 @@ fn next_stage(form: bool, next: Stage) -> Stage
 
 // The first line: the names of the settings.
 pub fn take_settings_names(s: Replay, line: &[u8], out: &mut [u8]) -> Taken
-    requires { ⌜ 1024 ≤ length (now out) ⌝ }
+    requires { ⌜ answerLine ≤ length (now out) ⌝ }
     ensures { λ r. ⌜ Takes SettingsNames s (now (line .entry)) (now (out .entry)) r (now (out .exit)) ⌝ }
 {
     let form = is_settings_names(line);
@@ -105,7 +106,7 @@ pub fn take_settings_names(s: Replay, line: &[u8], out: &mut [u8]) -> Taken
 
 // The second line: the settings.
 pub fn take_settings(s: Replay, line: &[u8], out: &mut [u8]) -> Taken
-    requires { ⌜ 1024 ≤ length (now out) ⌝ }
+    requires { ⌜ answerLine ≤ length (now out) ⌝ }
     ensures { λ r. ⌜ Takes SettingsValues s (now (line .entry)) (now (out .entry)) r (now (out .exit)) ⌝ }
 {
     let x = read_settings(line);
@@ -119,7 +120,7 @@ pub fn take_settings(s: Replay, line: &[u8], out: &mut [u8]) -> Taken
 
 // The third line: the names of a modem's fields.
 pub fn take_modem_names(s: Replay, line: &[u8], out: &mut [u8]) -> Taken
-    requires { ⌜ 1024 ≤ length (now out) ⌝ }
+    requires { ⌜ answerLine ≤ length (now out) ⌝ }
     ensures { λ r. ⌜ Takes ModemNames s (now (line .entry)) (now (out .entry)) r (now (out .exit)) ⌝ }
 {
     let form = is_modem_names(line);
@@ -134,7 +135,7 @@ pub fn take_modem_names(s: Replay, line: &[u8], out: &mut [u8]) -> Taken
 
 // The fourth line: the modem.
 pub fn take_modem(s: Replay, line: &[u8], out: &mut [u8]) -> Taken
-    requires { ⌜ 1024 ≤ length (now out) ⌝ }
+    requires { ⌜ answerLine ≤ length (now out) ⌝ }
     ensures { λ r. ⌜ Takes ModemValues s (now (line .entry)) (now (out .entry)) r (now (out .exit)) ⌝ }
 {
     let x = read_modem(line);
@@ -148,8 +149,8 @@ pub fn take_modem(s: Replay, line: &[u8], out: &mut [u8]) -> Taken
 
 // The counts of frames of both ends.
 fn put_ends(e: Ends, out: &mut [u8]) -> usize
-    requires { ⌜ 1024 ≤ length (now out) ⌝ }
-    ensures { λ n. ⌜ (n ≡ length (endTextAt Running e)) × ((now (out .exit) ≡ overlay (now (out .entry)) (endTextAt Running e)) × (n ≤ 1024)) ⌝ }
+    requires { ⌜ answerLine ≤ length (now out) ⌝ }
+    ensures { λ n. ⌜ (n ≡ length (endTextAt Running e)) × ((now (out .exit) ≡ overlay (now (out .entry)) (endTextAt Running e)) × (n ≤ answerLine)) ⌝ }
 {
     let h = e.head;
     let m = e.modem;
@@ -158,8 +159,8 @@ fn put_ends(e: Ends, out: &mut [u8]) -> usize
 
 // What is answered after the last line.
 pub fn put_end(s: Replay, out: &mut [u8]) -> usize
-    requires { ⌜ 1024 ≤ length (now out) ⌝ }
-    ensures { λ n. ⌜ (n ≡ length (endText s)) × ((now (out .exit) ≡ overlay (now (out .entry)) (endText s)) × (n ≤ 1024)) ⌝ }
+    requires { ⌜ answerLine ≤ length (now out) ⌝ }
+    ensures { λ n. ⌜ (n ≡ length (endText s)) × ((now (out .exit) ≡ overlay (now (out .entry)) (endText s)) × (n ≤ answerLine)) ⌝ }
 {
     let stage = s.stage;
     let e = s.ends;

@@ -19,6 +19,7 @@ use crate::start::Replay;
 use crate::start::begin;
 use libc::STDIN_FILENO;
 use libc::STDOUT_FILENO;
+use replay_answer::answer::ANSWER_LINE;
 use text::characters::LINE_FEED;
 
 // Characters that are kept of a line: one more than the longest that is read, so that a longer one is known by its length.
@@ -34,7 +35,7 @@ struct Reading {
 fn answer(s: Replay, line: &[u8]) -> Replay
     ensures { λ r. ⌜ r ≡ afterLine s (now (line .entry)) ⌝ }
 {
-    let mut space = io::buffer();
+    let mut space = [0u8; ANSWER_LINE];
     let t = take_line(s, line, &mut space);
     let n = t.count;
     io::write_all(STDOUT_FILENO, &space[..n]);
@@ -98,7 +99,7 @@ fn finish(s: Replay, line: &[u8]) {
     if 0 < line.len() {
         replay = answer(replay, line);
     }
-    let mut space = io::buffer();
+    let mut space = [0u8; ANSWER_LINE];
     let n = put_end(replay, &mut space);
     io::write_all(STDOUT_FILENO, &space[..n]);
 }

@@ -34,9 +34,9 @@ if-on {vs = vs} t q p = put-as (ap (λ (u : Bool). textIf u vs) (sym q)) p
 
 -- ---- by its kind
 
-pub rest-as : {d : List ℕ} {at n : ℕ} {e : List ℕ} (k j : Kind) (number key : ℕ) (tek vector sent : List ℕ) → k ≡ j
-    → Put d at (restText j number key tek vector sent) n e → Put d at (restText k number key tek vector sent) n e
-rest-as k j number key tek vector sent q p = put-as (ap (λ (i : Kind). restText i number key tek vector sent) (sym q)) p
+pub rest-as : {d : List ℕ} {at n : ℕ} {e : List ℕ} (k j : Kind) (number key : ℕ) (tek vector frame sent : List ℕ) → k ≡ j
+    → Put d at (restText j number key tek vector frame sent) n e → Put d at (restText k number key tek vector frame sent) n e
+rest-as k j number key tek vector frame sent q p = put-as (ap (λ (i : Kind). restText i number key tek vector frame sent) (sym q)) p
 
 -- ---- a whole line
 

@@ -6,13 +6,16 @@ ghost use lib.ListN.{length};
 ghost use Rattle.text.specs.Decimal.{numberText};
 ghost use Rattle.key_traffic.specs.Put.{Put};
 ghost use Rattle.key_traffic.specs.Octets.{overlay};
-ghost use Rattle.replay_answer.specs.Answer.{Room, textIf, commaHex, keysText, sealText, openText, restText, answerText, countsText};
+ghost use Rattle.replay_answer.specs.Answer.{Room, answerLine, textIf, commaHex, keysText, sealText, openText, sealFrameText, openFrameText, restText, answerText, countsText};
 use questions::refusal::DONE;
 use questions::refusal::NO_KEY_FOR_FRAME;
 use replay_read::calls::Kind;
 use text::characters::LINE_FEED;
 use text::decimal::put_decimal;
 use text::hex::put_hex;
+
+// Characters that the longest answer needs at most.
+pub const ANSWER_LINE: usize = 17408;
 
 // One octet.
 fn put_octet(out: &mut [u8], at: usize, x: u8) -> usize
@@ -89,6 +92,40 @@ fn put_open(out: &mut [u8], at: usize, number: u8, tek: &[u8], vector: &[u8], se
     put_sent(out, a, number == NO_KEY_FOR_FRAME, sent)
 }
 
+// A frame's octets, or nothing.
+fn put_frame(out: &mut [u8], at: usize, on: bool, frame: &[u8]) -> usize
+    requires { ⌜ (length (now frame) ≤ 8192) × (at + 16385 ≤ length (now out)) ⌝ }
+    ensures { λ r. ⌜ Put (now (out .entry)) at (textIf on (commaHex (now (frame .entry)))) r (now (out .exit)) ⌝ }
+    ensures { λ r. ⌜ r ≤ at + 16385 ⌝ }
+{
+    if !on {
+        return at;
+    }
+    put_comma_hex(out, at, frame)
+}
+
+fn put_seal_frame(out: &mut [u8], at: usize, number: u8, key: u8, frame: &[u8]) -> usize
+    requires { ⌜ (length (now frame) ≤ 8192) × (at + 16406 ≤ length (now out)) ⌝ }
+    ensures { λ r. ⌜ Put (now (out .entry)) at (sealFrameText number key (now (frame .entry))) r (now (out .exit)) ⌝ }
+    ensures { λ r. ⌜ r ≤ at + 16406 ⌝ }
+{
+    if number != DONE {
+        return at;
+    }
+    let a = put_octet(out, at, b',');
+    let b = put_decimal(out, a, key as u64);
+    put_comma_hex(out, b, frame)
+}
+
+fn put_open_frame(out: &mut [u8], at: usize, number: u8, frame: &[u8], sent: &[u8]) -> usize
+    requires { ⌜ (length (now frame) ≤ 8192) × ((length (now sent) ≤ 342) × (at + 17070 ≤ length (now out))) ⌝ }
+    ensures { λ r. ⌜ Put (now (out .entry)) at (openFrameText number (now (frame .entry)) (now (sent .entry))) r (now (out .exit)) ⌝ }
+    ensures { λ r. ⌜ r ≤ at + 17070 ⌝ }
+{
+    let a = put_frame(out, at, number == DONE, frame);
+    put_sent(out, a, number == NO_KEY_FOR_FRAME, sent)
+}
+
 // What follows an answer's number.
 fn put_rest(
     out: &mut [u8],
@@ -98,11 +135,12 @@ fn put_rest(
     key: u8,
     tek: &[u8],
     vector: &[u8],
+    frame: &[u8],
     sent: &[u8],
 ) -> usize
-    requires { ⌜ (length (now tek) ≤ 16) × ((length (now vector) ≤ 16) × ((length (now sent) ≤ 342) × (at + 751 ≤ length (now out)))) ⌝ }
-    ensures { λ r. ⌜ Put (now (out .entry)) at (restText kind number key (now (tek .entry)) (now (vector .entry)) (now (sent .entry))) r (now (out .exit)) ⌝ }
-    ensures { λ r. ⌜ r ≤ at + 751 ⌝ }
+    requires { ⌜ (length (now tek) ≤ 16) × ((length (now vector) ≤ 16) × ((length (now frame) ≤ 8192) × ((length (now sent) ≤ 342) × (at + 17070 ≤ length (now out))))) ⌝ }
+    ensures { λ r. ⌜ Put (now (out .entry)) at (restText kind number key (now (tek .entry)) (now (vector .entry)) (now (frame .entry)) (now (sent .entry))) r (now (out .exit)) ⌝ }
+    ensures { λ r. ⌜ r ≤ at + 17070 ⌝ }
 {
     match kind {
         Kind::List => at,
@@ -115,6 +153,10 @@ fn put_rest(
         Kind::SealUp => put_seal(out, at, number, key, tek, vector),
         Kind::OpenUp => put_open(out, at, number, tek, vector, sent),
         Kind::OpenDown => put_open(out, at, number, tek, vector, sent),
+        Kind::SealDownFrame => put_seal_frame(out, at, number, key, frame),
+        Kind::SealUpFrame => put_seal_frame(out, at, number, key, frame),
+        Kind::OpenUpFrame => put_open_frame(out, at, number, frame, sent),
+        Kind::OpenDownFrame => put_open_frame(out, at, number, frame, sent),
     }
 }
 
@@ -125,16 +167,17 @@ pub fn put_answer(
     key: u8,
     tek: &[u8],
     vector: &[u8],
+    frame: &[u8],
     sent: &[u8],
     out: &mut [u8],
 ) -> usize
-    requires { ⌜ Room (now tek) (now vector) (now sent) (now out) ⌝ }
-    ensures { λ r. ⌜ now (out .exit) ≡ overlay (now (out .entry)) (answerText kind number key (now (tek .entry)) (now (vector .entry)) (now (sent .entry))) ⌝ }
-    ensures { λ r. ⌜ r ≡ length (answerText kind number key (now (tek .entry)) (now (vector .entry)) (now (sent .entry))) ⌝ }
-    ensures { λ r. ⌜ r ≤ 1024 ⌝ }
+    requires { ⌜ Room (now tek) (now vector) (now frame) (now sent) (now out) ⌝ }
+    ensures { λ r. ⌜ now (out .exit) ≡ overlay (now (out .entry)) (answerText kind number key (now (tek .entry)) (now (vector .entry)) (now (frame .entry)) (now (sent .entry))) ⌝ }
+    ensures { λ r. ⌜ r ≡ length (answerText kind number key (now (tek .entry)) (now (vector .entry)) (now (frame .entry)) (now (sent .entry))) ⌝ }
+    ensures { λ r. ⌜ r ≤ answerLine ⌝ }
 {
     let a = put_decimal(out, 0, number as u64);
-    let b = put_rest(out, a, kind, number, key, tek, vector, sent);
+    let b = put_rest(out, a, kind, number, key, tek, vector, frame, sent);
     put_octet(out, b, LINE_FEED)
 }
 

@@ -179,6 +179,7 @@ module _ (e : Ends) (t : ℕ) (m write : List ℕ) (lent : ℕ) where
         number = n;
         key = record { 0 = 0 };
         width = 0;
+        frame = 0;
         count = length (clockWrote (a && b) (worldOf e) t write lent);
         ends = endsOf (clockedBy (a && b) (worldOf e) t m write lent);
       }
@@ -233,21 +234,21 @@ module _ (e : Ends) (t : ℕ) (m write : List ℕ) (lent : ℕ) where
 -- ---- frames
 pub seal-down-applied : (e : Ends) (address said tek vector n : ℕ) (c : SealedCall)
     → n ≡ answerNumber (c .answer) → c ≡ sealCalled (HeadFrames.sealOf (e .head) (e .records) address said tek vector)
-    → record { number = n; key = c .number; width = c .width; count = 0; ends = e } ≡ appliedOf (worldOf e) (sealDown address said tek vector)
+    → record { number = n; key = c .number; width = c .width; frame = 0; count = 0; ends = e } ≡ appliedOf (worldOf e) (sealDown address said tek vector)
 seal-down-applied e address said tek vector n c p q =
-    ap (λ k. record { number = k; key = c .number; width = c .width; count = 0; ends = e }) p
-    ∙ ap (λ (y : SealedCall). record { number = answerNumber (y .answer); key = y .number; width = y .width; count = 0; ends = e }) q
+    ap (λ k. record { number = k; key = c .number; width = c .width; frame = 0; count = 0; ends = e }) p
+    ∙ ap (λ (y : SealedCall). record { number = answerNumber (y .answer); key = y .number; width = y .width; frame = 0; count = 0; ends = e }) q
 
 pub seal-up-applied : (e : Ends) (said tek vector n : ℕ) (c : SealedCall)
     → n ≡ answerNumber (c .answer) → c ≡ sealCalled (ModemFrames.sealOf (e .modem) said tek vector)
-    → record { number = n; key = c .number; width = c .width; count = 0; ends = e } ≡ appliedOf (worldOf e) (sealUp said tek vector)
+    → record { number = n; key = c .number; width = c .width; frame = 0; count = 0; ends = e } ≡ appliedOf (worldOf e) (sealUp said tek vector)
 seal-up-applied e said tek vector n c p q =
-    ap (λ k. record { number = k; key = c .number; width = c .width; count = 0; ends = e }) p
-    ∙ ap (λ (y : SealedCall). record { number = answerNumber (y .answer); key = y .number; width = y .width; count = 0; ends = e }) q
+    ap (λ k. record { number = k; key = c .number; width = c .width; frame = 0; count = 0; ends = e }) p
+    ∙ ap (λ (y : SealedCall). record { number = answerNumber (y .answer); key = y .number; width = y .width; frame = 0; count = 0; ends = e }) q
 
 abbrev openedUpAs : ℕ → OpenedCall → Ends → Applied
 openedUpAs n c e =
-    record { number = n; key = record { 0 = 0 }; width = c .width; count = c .count; ends = record { head = c .state; records = e .records; modem = e .modem } }
+    record { number = n; key = record { 0 = 0 }; width = c .width; frame = 0; count = c .count; ends = record { head = c .state; records = e .records; modem = e .modem } }
 
 pub open-up-applied : (e : Ends) (direction address said : ℕ) (number : TekNumber) (write : List ℕ) (tek vector lent n : ℕ) (c : OpenedCall)
     → n ≡ answerNumber (c .answer) → c ≡ openCalled (HeadFrames.openOf (e .head) (e .records) direction address said number write tek vector lent)
@@ -257,7 +258,7 @@ open-up-applied e direction address said number write tek vector lent n c p q =
 
 abbrev openedDownAs : ℕ → ModemOpenedCall → Ends → Applied
 openedDownAs n c e =
-    record { number = n; key = record { 0 = 0 }; width = c .width; count = c .count; ends = record { head = e .head; records = e .records; modem = c .modem } }
+    record { number = n; key = record { 0 = 0 }; width = c .width; frame = 0; count = c .count; ends = record { head = e .head; records = e .records; modem = c .modem } }
 
 pub open-down-applied : (e : Ends) (direction address said : ℕ) (number : TekNumber) (write : List ℕ) (tek vector lent n : ℕ) (c : ModemOpenedCall)
     → n ≡ answerNumber (c .answer) → c ≡ modemOpenCalled (ModemFrames.openOf (e .modem) direction address said number write tek vector lent)
@@ -266,10 +267,10 @@ open-down-applied e direction address said number write tek vector lent n c p q 
     ap (λ k. openedDownAs k c e) p ∙ ap (λ (y : ModemOpenedCall). openedDownAs (answerNumber (y .answer)) y e) q
 
 -- ---- what is said of a kind is said of a call of that kind
-module _ (e : Ends) (c : Call) (octets auth read write tek vector out : List ℕ) where
-  abbrev AppliesBy : Kind → Applied → List ℕ → List ℕ → List ℕ → Type 0
-  AppliesBy k r tek′ vector′ out′ =
-      Applies (worldOf e) (stepBy k c octets auth read write (length tek) (length vector) (length out)) tek vector out r tek′ vector′ out′
+module _ (e : Ends) (c : Call) (octets auth read write tek vector out frame : List ℕ) where
+  abbrev AppliesBy : Kind → Applied → List ℕ → List ℕ → List ℕ → List ℕ → Type 0
+  AppliesBy k r tek′ vector′ out′ frame′ =
+      Applies (worldOf e) (stepBy k c octets auth read write (length tek) (length vector) (length out) (length frame)) tek vector out frame r tek′ vector′ out′ frame′
 
-  pub applies-as : (k : Kind) (r : Applied) (tek′ vector′ out′ : List ℕ) → c .kind ≡ k → AppliesBy k r tek′ vector′ out′ → AppliesBy (c .kind) r tek′ vector′ out′
-  applies-as k r tek′ vector′ out′ h x = subst (λ z. AppliesBy z r tek′ vector′ out′) (sym h) x
+  pub applies-as : (k : Kind) (r : Applied) (tek′ vector′ out′ frame′ : List ℕ) → c .kind ≡ k → AppliesBy k r tek′ vector′ out′ frame′ → AppliesBy (c .kind) r tek′ vector′ out′ frame′
+  applies-as k r tek′ vector′ out′ frame′ h x = subst (λ z. AppliesBy z r tek′ vector′ out′ frame′) (sym h) x

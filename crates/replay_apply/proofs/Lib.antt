@@ -1,3 +1,4 @@
 pub mod ArrayLent
 pub mod ApplyLaws
+pub mod FrameLaws
 pub mod GaveLaws

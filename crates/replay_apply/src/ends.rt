@@ -14,17 +14,18 @@ pub struct Ends {
     pub modem: Modem,
 }
 
-// Document 01's number; of a sealing the key's number; how many octets of TEK and of vector were written, and how many of messages; both
-// ends after the call.
+// Document 01's number; of a sealing the key's number; how many octets of TEK and of vector were written, how many of a frame, and how many of
+// messages; both ends after the call.
 pub struct Applied {
     pub number: u8,
     pub key: TekNumber,
     pub width: usize,
+    pub frame: usize,
     pub count: usize,
     pub ends: Ends,
 }
 
-// A call that gives no key.
+// A call that gives neither key nor frame.
 pub fn quiet(
     number: u8,
     count: usize,
@@ -43,6 +44,7 @@ pub fn quiet(
         number: number,
         key: TekNumber(0),
         width: 0,
+        frame: 0,
         count: count,
         ends: ends,
     }
@@ -56,6 +58,7 @@ pub fn refused(number: u8, e: Ends) -> Applied
         number: number,
         key: TekNumber(0),
         width: 0,
+        frame: 0,
         count: 0,
         ends: e,
     }

@@ -3,13 +3,17 @@ ghost use mathlib.Core.Path.{_≡_};
 ghost use lib.ListN.{length};
 ghost use Rattle.key_traffic.specs.Sealing.{SealGives};
 ghost use Rattle.headend_calls.specs.Calls.{listOf, listRecords, clockOf, clockRecords, Receives};
-ghost use Rattle.headend_frames.specs.FrameCalls.{sealOf, openOf};
+ghost use Rattle.frame_octets.specs.Framed.{FrameSealGives};
+ghost use Rattle.headend_frames.specs.FrameCalls.{sealOf, openOf, sealFrameOf, openFrameOf};
 ghost use Rattle.headend_frames.specs.FrameCalled.{OpenGives};
+ghost use Rattle.headend_frames.specs.OctetFrames.{OpenFrameGives};
 use headend_calls::calls::clock;
 use headend_calls::calls::list;
 use headend_calls::calls::receive;
 use headend_calls::frames::open;
+use headend_calls::frames::open_frame;
 use headend_calls::frames::seal;
+use headend_calls::frames::seal_frame;
 use headend_frames::frames::OpenedCall;
 use headend_state::state::Called;
 use headend_state::state::HeadEnd;
@@ -116,6 +120,51 @@ pub fn open_held(
         write,
         tek,
         vector,
+        invalid,
+    )
+}
+
+// A frame's octets to a modem.
+pub fn seal_frame_held(
+    h: HeadEnd,
+    records: [Assoc; RECORDS_MAX],
+    address: u64,
+    said: u16,
+    octets: &[u8],
+    sealed: &mut [u8],
+) -> SealedCall
+    ensures { λ r. ⌜ FrameSealGives (sealFrameOf h records address said (now (octets .entry)) (length (now (sealed .entry))))
+        (now (sealed .entry)) r (now (sealed .exit)) ⌝ }
+{
+    seal_frame(h, &records, address, said, octets, sealed)
+}
+
+// A frame's octets from a modem.
+pub fn open_frame_held(
+    h: HeadEnd,
+    records: [Assoc; RECORDS_MAX],
+    direction: u8,
+    address: u64,
+    said: u16,
+    number: TekNumber,
+    octets: &[u8],
+    write: &[u8],
+    opened: &mut [u8],
+    invalid: &mut [u8],
+) -> OpenedCall
+    ensures { λ r. ⌜ OpenFrameGives (openFrameOf h records direction address said number (now (octets .entry)) (now (write .entry)) (length (now (opened .entry))) (length (now (invalid .entry))))
+        (now (opened .entry)) (now (invalid .entry)) r (now (opened .exit)) (now (invalid .exit)) ⌝ }
+{
+    open_frame(
+        h,
+        &records,
+        direction,
+        address,
+        said,
+        number,
+        octets,
+        write,
+        opened,
         invalid,
     )
 }

@@ -6,7 +6,7 @@ ghost use Rattle.questions.specs.Refusal.{answerNumber, isDone};
 ghost use Rattle.modem_calls.specs.Calls.{clockOf};
 ghost use Rattle.demand_plant.specs.World as World;
 ghost use Rattle.replay_apply.specs.Steps.{worldOf};
-ghost use Rattle.replay_apply.specs.Applied.{quietOf, clockedOf, AppliesSent, AppliesKey, Applies};
+ghost use Rattle.replay_apply.specs.Applied.{quietOf, clockedOf, AppliesSent, AppliesKey, AppliesKeySent, AppliesFrame, AppliesFrameSent};
 use crate::ends::Applied;
 use crate::ends::Ends;
 use crate::ends::quiet;
@@ -20,6 +20,8 @@ use modem_calls::calls::reauth;
 use modem_calls::calls::receive;
 use modem_frames::frames::open;
 use modem_frames::frames::seal;
+use modem_frames::octets::open_frame;
+use modem_frames::octets::seal_frame;
 use modem_steps::state::Called;
 use questions::limits::RECORDS_MAX;
 use questions::refusal::answer_number;
@@ -99,6 +101,7 @@ pub fn apply_seal_up(e: Ends, c: Call, tek: &mut [u8], vector: &mut [u8]) -> App
         number: number,
         key: key,
         width: r.width,
+        frame: 0,
         count: 0,
         ends: e,
     }
@@ -113,7 +116,7 @@ pub fn apply_open_down(
     vector: &mut [u8],
     out: &mut [u8],
 ) -> Applied
-    ensures { λ r. ⌜ Applies (worldOf e) (World.openDown (c .word) (c .address) (c .said) (c .number) (now (write .entry)) (length (now (tek .entry))) (length (now (vector .entry))) (length (now (out .entry))))
+    ensures { λ r. ⌜ AppliesKeySent (worldOf e) (World.openDown (c .word) (c .address) (c .said) (c .number) (now (write .entry)) (length (now (tek .entry))) (length (now (vector .entry))) (length (now (out .entry))))
         (now (tek .entry)) (now (vector .entry)) (now (out .entry)) r (now (tek .exit)) (now (vector .exit)) (now (out .exit)) ⌝ }
 {
     let head = e.head;
@@ -141,6 +144,69 @@ pub fn apply_open_down(
         number: number,
         key: TekNumber(0),
         width: r.width,
+        frame: 0,
+        count: r.count,
+        ends: ends,
+    }
+}
+
+// A frame's octets that the modem sends.
+pub fn apply_seal_up_frame(e: Ends, c: Call, octets: &[u8], frame: &mut [u8]) -> Applied
+    ensures { λ r. ⌜ AppliesFrame (worldOf e) (World.sealUpFrame (c .said) (now (octets .entry)) (length (now (frame .entry))))
+        (now (frame .entry)) r (now (frame .exit)) ⌝ }
+{
+    let r = seal_frame(e.modem, c.said, octets, frame);
+    let a = r.answer;
+    let key = r.number;
+    let number = answer_number(a);
+    Applied {
+        number: number,
+        key: key,
+        width: 0,
+        frame: r.width,
+        count: 0,
+        ends: e,
+    }
+}
+
+// A frame's octets that reach the modem.
+pub fn apply_open_down_frame(
+    e: Ends,
+    c: Call,
+    octets: &[u8],
+    write: &[u8],
+    frame: &mut [u8],
+    out: &mut [u8],
+) -> Applied
+    ensures { λ r. ⌜ AppliesFrameSent (worldOf e) (World.openDownFrame (c .word) (c .address) (c .said) (c .number) (now (octets .entry)) (now (write .entry)) (length (now (frame .entry))) (length (now (out .entry))))
+        (now (frame .entry)) (now (out .entry)) r (now (frame .exit)) (now (out .exit)) ⌝ }
+{
+    let head = e.head;
+    let records = e.records;
+    let r = open_frame(
+        e.modem,
+        c.word,
+        c.address,
+        c.said,
+        c.number,
+        octets,
+        write,
+        frame,
+        out,
+    );
+    let a = r.answer;
+    let after = r.modem;
+    let number = answer_number(a);
+    let ends = Ends {
+        head: head,
+        records: records,
+        modem: after,
+    };
+    Applied {
+        number: number,
+        key: TekNumber(0),
+        width: 0,
+        frame: r.width,
         count: r.count,
         ends: ends,
     }

@@ -197,6 +197,7 @@ cut-holds l =
     let r₂ = nth-rest l 1 _ r₁ in
     let r₃ = nth-rest l 2 _ r₂ in
     let r₄ = nth-rest l 3 _ r₃ in
+    let r₅ = nth-rest l 4 _ r₄ in
     record {
       counted = refl;
       name-is = nth-holds l 0 0 (from-start l);
@@ -204,7 +205,8 @@ cut-holds l =
       second-is = nth-holds l 2 _ r₂;
       third-is = nth-holds l 3 _ r₃;
       fourth-is = nth-holds l 4 _ r₄;
-      fifth-is = nth-holds l 5 _ (nth-rest l 4 _ r₄);
+      fifth-is = nth-holds l 5 _ r₅;
+      sixth-is = nth-holds l 6 _ (nth-rest l 5 _ r₅);
       rest-is = r₄;
     }
 

@@ -37,17 +37,18 @@ flag-is t n e = ap (λ (m : Num). record { fits = m .fits && leb (m .value) 1; v
 
 -- ---- what the functions over fields answer
 
-pub cuts-are : (l : List ℕ) (n : ℕ) (a b c d e f : Field) → n ≡ length (fieldsOf l) → a ≡ fieldAt l 0 → b ≡ fieldAt l (a .end + 1) → c ≡ fieldAt l (b .end + 1)
-    → d ≡ fieldAt l (c .end + 1) → e ≡ fieldAt l (d .end + 1) → f ≡ fieldAt l (e .end + 1)
-    → _≡_ {A = Cuts} (record { count = n; name = a; first = b; second = c; third = d; fourth = e; fifth = f }) (cutsOf l)
+pub cuts-are : (l : List ℕ) (n : ℕ) (a b c d e f g : Field) → n ≡ length (fieldsOf l) → a ≡ fieldAt l 0 → b ≡ fieldAt l (a .end + 1) → c ≡ fieldAt l (b .end + 1)
+    → d ≡ fieldAt l (c .end + 1) → e ≡ fieldAt l (d .end + 1) → f ≡ fieldAt l (e .end + 1) → g ≡ fieldAt l (f .end + 1)
+    → _≡_ {A = Cuts} (record { count = n; name = a; first = b; second = c; third = d; fourth = e; fifth = f; sixth = g }) (cutsOf l)
 unfolding cutsOf
-cuts-are l n a b c d e f en ea eb ec ed ee ef =
+cuts-are l n a b c d e f g en ea eb ec ed ee ef eg =
     let b′ : b ≡ afterField l (fieldAt l 0) = eb ∙ ap (afterField l) ea in
     let c′ : c ≡ afterField l (afterField l (fieldAt l 0)) = ec ∙ ap (afterField l) b′ in
     let d′ : d ≡ afterField l (afterField l (afterField l (fieldAt l 0))) = ed ∙ ap (afterField l) c′ in
     let e′ : e ≡ afterField l (afterField l (afterField l (afterField l (fieldAt l 0)))) = ee ∙ ap (afterField l) d′ in
     let f′ : f ≡ afterField l (afterField l (afterField l (afterField l (afterField l (fieldAt l 0))))) = ef ∙ ap (afterField l) e′ in
-    rw (en, ea, b′, c′, d′, e′, f′)
+    let g′ : g ≡ afterField l (afterField l (afterField l (afterField l (afterField l (afterField l (fieldAt l 0)))))) = eg ∙ ap (afterField l) f′ in
+    rw (en, ea, b′, c′, d′, e′, f′, g′)
 
 pub octets-are : (l : List ℕ) (f : Field) (b : Bool) → Inside l f → b ≡ allHex (textOf l f)
     → _≡_ {A = Octets} (record { fits = eqb ((f .end - f .at) % 2) 0 && b; place = record { at = f .at; count = (f .end - f .at) / 2 } }) (octetsFor l f)

@@ -51,6 +51,7 @@ cutsOf l =
       third = afterField l (afterField l (afterField l (fieldAt l 0)));
       fourth = afterField l (afterField l (afterField l (afterField l (fieldAt l 0))));
       fifth = afterField l (afterField l (afterField l (afterField l (afterField l (fieldAt l 0)))));
+      sixth = afterField l (afterField l (afterField l (afterField l (afterField l (afterField l (fieldAt l 0))))));
     }
 
 -- A place holds a field of the line
@@ -67,6 +68,7 @@ pub record Cut (l : List ℕ) (c : Cuts) : Type 0 where
   pub third-is : Holds l (c .third) (field (fieldsOf l) 3)
   pub fourth-is : Holds l (c .fourth) (field (fieldsOf l) 4)
   pub fifth-is : Holds l (c .fifth) (field (fieldsOf l) 5)
+  pub sixth-is : Holds l (c .sixth) (field (fieldsOf l) 6)
   pub rest-is : fieldsFrom l (c .third .end + 1) ≡ drop 4 (fieldsOf l)
 
 -- ---- what they say

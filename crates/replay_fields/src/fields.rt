@@ -30,7 +30,7 @@ pub struct Num {
     pub value: u64,
 }
 
-// How many fields a line has, and where its first six stand.
+// How many fields a line has, and where its first seven stand.
 pub struct Cuts {
     pub count: usize,
     pub name: Field,
@@ -39,6 +39,7 @@ pub struct Cuts {
     pub third: Field,
     pub fourth: Field,
     pub fifth: Field,
+    pub sixth: Field,
 }
 
 // The field that starts at a place. Past the line's end it is empty.
@@ -86,6 +87,7 @@ pub fn cut_line(line: &[u8]) -> Cuts
     let third = field_at(line, second.end + 1);
     let fourth = field_at(line, third.end + 1);
     let fifth = field_at(line, fourth.end + 1);
+    let sixth = field_at(line, fifth.end + 1);
     Cuts {
         count: count,
         name: name,
@@ -94,6 +96,7 @@ pub fn cut_line(line: &[u8]) -> Cuts
         third: third,
         fourth: fourth,
         fifth: fifth,
+        sixth: sixth,
     }
 }
 

@@ -14,7 +14,7 @@ use Rattle.replay_fields.specs.declared.fields.Field.{Field}
 use Rattle.replay_fields.specs.declared.fields.Cuts.{Cuts}
 use Rattle.replay_fields.specs.declared.octets.Place.{Place}
 use Rattle.replay_fields.specs.declared.octets.Octets.{Octets}
-use Rattle.replay_read.specs.declared.call.ReadCall.{ReadCall}
+use Rattle.replay_read.specs.declared.kept.ReadCall.{ReadCall}
 use Rattle.replay_read.specs.declared.name.Named.{Named}
 use Rattle.replay_fields.specs.Fields.{fieldsOf, field, isLine}
 use Rattle.text.specs.Hex.{octetsOf}

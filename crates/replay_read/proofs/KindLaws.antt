@@ -15,7 +15,7 @@ use Rattle.replay_fields.specs.declared.fields.Cuts.{Cuts}
 use Rattle.replay_fields.specs.declared.octets.Place.{Place}
 use Rattle.replay_fields.specs.declared.octets.Octets.{Octets}
 use Rattle.replay_fields.specs.declared.listing.Pairs.{Pairs}
-use Rattle.replay_read.specs.declared.call.ReadCall.{ReadCall}
+use Rattle.replay_read.specs.declared.kept.ReadCall.{ReadCall}
 use Rattle.replay_fields.specs.Fields.{fieldsOf, field, isNumber, numberIn, isFlag}
 use Rattle.text.specs.Hex.{isOctets, octetsOf}
 use Rattle.replay_fields.specs.Listing.{wordIn, isPairs, listingIn}
@@ -29,11 +29,11 @@ use Rattle.replay_read.proofs.CallLaws.{nowhere, place-says, kept-reads
 -- ---- fields
 
 module _ (l : List ℕ) (f : Field) (t : List ℕ) (h : Holds l f t) where
-  num-fits : (n : Num) → n ≡ numOf (textOf l f) → n .fits ≡ isNumber t
+  pub num-fits : (n : Num) → n ≡ numOf (textOf l f) → n .fits ≡ isNumber t
   unfolding numOf
   num-fits n e = ap (λ (k : Num). k .fits) e ∙ ap isNumber (h .text)
 
-  num-value : (n : Num) → n ≡ numOf (textOf l f) → n .value ≡ numberIn t
+  pub num-value : (n : Num) → n ≡ numOf (textOf l f) → n .value ≡ numberIn t
   unfolding numOf
   num-value n e = ap (λ (k : Num). k .value) e ∙ ap numberIn (h .text)
 
@@ -45,7 +45,7 @@ module _ (l : List ℕ) (f : Field) (t : List ℕ) (h : Holds l f t) where
   unfolding flagOf
   flag-value n e = ap (λ (k : Num). k .value) e ∙ ap numberIn (h .text)
 
-  octets-fit : (o : Octets) → o ≡ octetsFor l f → o .fits ≡ isOctets t
+  pub octets-fit : (o : Octets) → o ≡ octetsFor l f → o .fits ≡ isOctets t
   unfolding octetsFor
   octets-fit o e = ap (λ (k : Octets). k .fits) e ∙ ap isOctets (h .text)
 

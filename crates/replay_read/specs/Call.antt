@@ -118,6 +118,33 @@ tellOpen k fs =
       write = octetsOf (field fs 5);
     })
 
+-- sealdownframe,ADDRESS,SAID,OCTETS
+unfoldable pub tellSealDownFrame : List (List ℕ) → Option LineCall
+tellSealDownFrame fs =
+    when
+    (eqb (length fs) 4 && isNumber (field fs 1) && isNumber (field fs 2) && isOctets (field fs 3))
+    (keyless (plain kind.SealDownFrame (numberIn (field fs 1)) 0 0 (wordIn (field fs 2)) 0) (octetsOf (field fs 3)))
+
+-- sealupframe,SAID,OCTETS
+unfoldable pub tellSealUpFrame : List (List ℕ) → Option LineCall
+tellSealUpFrame fs =
+    when
+    (eqb (length fs) 3 && isNumber (field fs 1) && isOctets (field fs 2))
+    (keyless (plain kind.SealUpFrame 0 0 0 (wordIn (field fs 1)) 0) (octetsOf (field fs 2)))
+
+-- openupframe and opendownframe, DIRECTION,ADDRESS,SAID,NUMBER,WRITEKEY,OCTETS
+unfoldable pub tellOpenFrame : Kind → List (List ℕ) → Option LineCall
+tellOpenFrame k fs =
+    when
+    (eqb (length fs) 7 && isNumber (field fs 1) && isNumber (field fs 2) && isNumber (field fs 3) && isNumber (field fs 4) && isOctets (field fs 5) && isOctets (field fs 6))
+    (record {
+      call = plain k (numberIn (field fs 2)) (octetIn (field fs 1)) 0 (wordIn (field fs 3)) (octetIn (field fs 4));
+      octets = octetsOf (field fs 6);
+      auth = [];
+      read = [];
+      write = octetsOf (field fs 5);
+    })
+
 -- By its kind
 abbrev pub tellOf : Kind → List (List ℕ) → Option LineCall
 tellOf kind.List fs = tellList fs
@@ -130,17 +157,30 @@ tellOf kind.SealDown fs = tellSealDown fs
 tellOf kind.SealUp fs = tellSealUp fs
 tellOf kind.OpenUp fs = tellOpen kind.OpenUp fs
 tellOf kind.OpenDown fs = tellOpen kind.OpenDown fs
+tellOf kind.SealDownFrame fs = tellSealDownFrame fs
+tellOf kind.SealUpFrame fs = tellSealUpFrame fs
+tellOf kind.OpenUpFrame fs = tellOpenFrame kind.OpenUpFrame fs
+tellOf kind.OpenDownFrame fs = tellOpenFrame kind.OpenDownFrame fs
 
 -- ---- the names
 
--- The kind of a frame's call that a name says: "sealdown", "sealup", "openup", "opendown"
+-- The kind of a call on a frame's octets that a name says: "sealdownframe", "sealupframe", "openupframe", "opendownframe"
+unfoldable pub octetsNamed : List ℕ → Option Kind
+octetsNamed f =
+    cond (sameOctets f (115 ∷ 101 ∷ 97 ∷ 108 ∷ 100 ∷ 111 ∷ 119 ∷ 110 ∷ 102 ∷ 114 ∷ 97 ∷ 109 ∷ 101 ∷ [])) (some kind.SealDownFrame)
+    (cond (sameOctets f (115 ∷ 101 ∷ 97 ∷ 108 ∷ 117 ∷ 112 ∷ 102 ∷ 114 ∷ 97 ∷ 109 ∷ 101 ∷ [])) (some kind.SealUpFrame)
+    (cond (sameOctets f (111 ∷ 112 ∷ 101 ∷ 110 ∷ 117 ∷ 112 ∷ 102 ∷ 114 ∷ 97 ∷ 109 ∷ 101 ∷ [])) (some kind.OpenUpFrame)
+    (cond (sameOctets f (111 ∷ 112 ∷ 101 ∷ 110 ∷ 100 ∷ 111 ∷ 119 ∷ 110 ∷ 102 ∷ 114 ∷ 97 ∷ 109 ∷ 101 ∷ [])) (some kind.OpenDownFrame)
+    none)))
+
+-- With those of a frame's key, "sealdown", "sealup", "openup", "opendown"
 unfoldable pub frameNamed : List ℕ → Option Kind
 frameNamed f =
     cond (sameOctets f (115 ∷ 101 ∷ 97 ∷ 108 ∷ 100 ∷ 111 ∷ 119 ∷ 110 ∷ [])) (some kind.SealDown)
     (cond (sameOctets f (115 ∷ 101 ∷ 97 ∷ 108 ∷ 117 ∷ 112 ∷ [])) (some kind.SealUp)
     (cond (sameOctets f (111 ∷ 112 ∷ 101 ∷ 110 ∷ 117 ∷ 112 ∷ [])) (some kind.OpenUp)
     (cond (sameOctets f (111 ∷ 112 ∷ 101 ∷ 110 ∷ 100 ∷ 111 ∷ 119 ∷ 110 ∷ [])) (some kind.OpenDown)
-    none)))
+    (octetsNamed f))))
 
 -- With those of a message, "up" and "down"
 unfoldable pub carriedNamed : List ℕ → Option Kind

@@ -6,7 +6,7 @@ use Rattle.replay_read.specs.declared.calls.Call.{Call}
 use Rattle.replay_read.specs.declared.calls.Kind.the-variants as kind
 use Rattle.replay_fields.specs.declared.octets.Place.{Place}
 use Rattle.replay_read.specs.declared.name.Named.{Named}
-use Rattle.replay_read.specs.declared.call.ReadCall.{ReadCall}
+use Rattle.replay_read.specs.declared.kept.ReadCall.{ReadCall}
 use Rattle.replay_read.specs.Calls.{plain}
 
 abbrev pub namedFor : Option Kind → Named

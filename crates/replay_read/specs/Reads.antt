@@ -7,7 +7,7 @@ use Prim.Native.Nat.{ℕ, _+_, _*_, _≤_}
 use lib.ListN.{length, take, drop}
 use Rattle.replay_read.specs.declared.calls.Call.{Call}
 use Rattle.replay_fields.specs.declared.octets.Place.{Place}
-use Rattle.replay_read.specs.declared.call.ReadCall.{ReadCall}
+use Rattle.replay_read.specs.declared.kept.ReadCall.{ReadCall}
 use Rattle.text.specs.Hex.{octetsOf}
 use Rattle.replay_read.specs.Call.{LineCall}
 use Rattle.replay_read.specs.CallPlaces.{noCall}

@@ -1,16 +1,22 @@
 // A line of a call: its kind by its name, and by its kind what its fields say.
 ghost use mathlib.Core.Path.{_≡_};
-ghost use mathlib.Core.Bool.{false};
 ghost use Prim.Native.Nat.{_≤_};
 ghost use lib.ListN.{length};
 ghost use Rattle.replay_fields.specs.Fields.{fieldsOf};
 ghost use Rattle.replay_read.specs.Call.{callOf, tellOf, tellList, tellClock, tellBare, tellUp, tellDown, tellSealDown, tellSealUp, tellOpen};
 ghost use Rattle.replay_fields.specs.Places.{Cut};
-ghost use Rattle.replay_read.specs.CallPlaces.{noPlace, noRead, keptOf, aloneOf};
 ghost use Rattle.replay_read.specs.Reads.{Reads};
 use crate::calls::Call;
 use crate::calls::Kind;
 use crate::calls::plain_call;
+use crate::frame::read_open_frame;
+use crate::frame::read_seal_down_frame;
+use crate::frame::read_seal_up_frame;
+use crate::kept::ReadCall;
+use crate::kept::kept;
+use crate::kept::kept_alone;
+use crate::kept::no_call;
+use crate::kept::no_place;
 use crate::name::kind_named;
 use key_traffic::numbers::TekNumber;
 use replay_fields::fields::Cuts;
@@ -21,7 +27,6 @@ use replay_fields::fields::number_of;
 use replay_fields::fields::to_u8;
 use replay_fields::fields::to_u16;
 use replay_fields::listing::pairs_from;
-use replay_fields::octets::Place;
 use replay_fields::octets::octets_of;
 
 // Fields of a line of each kind, its name among them; a listing has this many or more.
@@ -40,63 +45,6 @@ const SEAL_DOWN_FIELDS: usize = 3;
 const SEAL_UP_FIELDS: usize = 2;
 
 const OPEN_FIELDS: usize = 6;
-
-// Whether a line is a call and which, and where the digits stand of its octets, of its AUTH-Key and of the message keys for what is read and for
-// what is written.
-pub struct ReadCall {
-    pub is_call: bool,
-    pub call: Call,
-    pub octets: Place,
-    pub auth: Place,
-    pub read: Place,
-    pub write: Place,
-}
-
-fn no_place() -> Place
-    ensures { λ r. ⌜ r ≡ noPlace ⌝ }
-{
-    Place { at: 0, count: 0 }
-}
-
-fn no_call() -> ReadCall
-    ensures { λ r. ⌜ r ≡ noRead ⌝ }
-{
-    let call = plain_call(Kind::Established, 0, 0, 0, 0, 0);
-    let place = no_place();
-    ReadCall {
-        is_call: false,
-        call: call,
-        octets: place,
-        auth: place,
-        read: place,
-        write: place,
-    }
-}
-
-// What was read, where it is a call.
-fn kept(on: bool, call: Call, octets: Place, auth: Place, read: Place, write: Place) -> ReadCall
-    ensures { λ r. ⌜ r ≡ keptOf on call octets auth read write ⌝ }
-{
-    if on {
-        return ReadCall {
-            is_call: true,
-            call: call,
-            octets: octets,
-            auth: auth,
-            read: read,
-            write: write,
-        };
-    }
-    no_call()
-}
-
-// The same of a call that brings numbers alone.
-fn kept_alone(on: bool, call: Call) -> ReadCall
-    ensures { λ r. ⌜ r ≡ aloneOf on call ⌝ }
-{
-    let none = no_place();
-    kept(on, call, none, none, none, none)
-}
 
 // The functions below read the fields of a line by its kind; each says what the form says of them.
 fn read_list(line: &[u8], c: Cuts) -> ReadCall
@@ -251,6 +199,10 @@ fn read_kind(line: &[u8], c: Cuts, kind: Kind) -> ReadCall
         Kind::SealUp => read_seal_up(line, c),
         Kind::OpenUp => read_open(line, c, Kind::OpenUp),
         Kind::OpenDown => read_open(line, c, Kind::OpenDown),
+        Kind::SealDownFrame => read_seal_down_frame(line, c),
+        Kind::SealUpFrame => read_seal_up_frame(line, c),
+        Kind::OpenUpFrame => read_open_frame(line, c, Kind::OpenUpFrame),
+        Kind::OpenDownFrame => read_open_frame(line, c, Kind::OpenDownFrame),
     }
 }
 

@@ -7,7 +7,7 @@ use key_association::listing::no_listing;
 use key_traffic::numbers::TekNumber;
 
 // Which call it is: a listing, the clock at both ends, the modem's own two, a message to the head-end and one to the modem, a sealing at the
-// head-end and at the modem, an opening at the head-end and at the modem.
+// head-end and at the modem, an opening at the head-end and at the modem, and the last four of a frame's octets.
 pub enum Kind {
     List,
     Clock,
@@ -19,6 +19,10 @@ pub enum Kind {
     SealUp,
     OpenUp,
     OpenDown,
+    SealDownFrame,
+    SealUpFrame,
+    OpenUpFrame,
+    OpenDownFrame,
 }
 
 // The call with its numbers; those that its kind does not bring are 0. `word` is 1 for an allowed modem and 0 for a barred one, and at an opening

@@ -3,5 +3,7 @@
 // says. The fields of a line are those of `replay_fields`; proofs/Rows.antt has computed lines.
 pub mod call;
 pub mod calls;
+mod frame;
+pub mod kept;
 mod name;
 pub mod setup;

@@ -1,12 +1,12 @@
 // The name of a call, the first field of its line.
 ghost use mathlib.Core.Path.{_≡_};
 ghost use mathlib.Core.Option.{some};
-ghost use Rattle.replay_read.specs.Call.{kindNamed, carriedNamed, frameNamed};
+ghost use Rattle.replay_read.specs.Call.{kindNamed, carriedNamed, frameNamed, octetsNamed};
 ghost use Rattle.replay_read.specs.CallPlaces.{namedFor};
 use crate::calls::Kind;
 use replay_fields::fields::same;
 
-// Whether a name is one of the ten, and which.
+// Whether a name is one of the fourteen, and which.
 pub struct Named {
     pub is_known: bool,
     pub kind: Kind,
@@ -18,6 +18,28 @@ fn known(kind: Kind) -> Named
     Named {
         is_known: true,
         kind: kind,
+    }
+}
+
+// Which call on a frame's octets a name is of.
+fn octets_named(name: &[u8]) -> Named
+    ensures { λ r. ⌜ r ≡ namedFor (octetsNamed (now (name .entry))) ⌝ }
+{
+    if same(name, b"sealdownframe") {
+        return known(Kind::SealDownFrame);
+    }
+    if same(name, b"sealupframe") {
+        return known(Kind::SealUpFrame);
+    }
+    if same(name, b"openupframe") {
+        return known(Kind::OpenUpFrame);
+    }
+    if same(name, b"opendownframe") {
+        return known(Kind::OpenDownFrame);
+    }
+    Named {
+        is_known: false,
+        kind: Kind::Established,
     }
 }
 
@@ -37,10 +59,7 @@ fn frame_named(name: &[u8]) -> Named
     if same(name, b"opendown") {
         return known(Kind::OpenDown);
     }
-    Named {
-        is_known: false,
-        kind: Kind::Established,
-    }
+    octets_named(name)
 }
 
 // Which call of a message or of a frame a name is of.

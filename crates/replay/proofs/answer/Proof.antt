@@ -7,9 +7,6 @@ use Rattle.replay.specs.Replay.{afterLine}
 use Rattle.replay.proofs.answer.Statement.{statement}
 use Rattle.replay.proofs.answer.Tie as tie
 
-buffer-requires : tie.Need-buffer-requires
-buffer-requires c κs = search needs
-
 slice-aggregate-take-line : tie.Need-slice-aggregate-take-line
 slice-aggregate-take-line c = search needs
 
@@ -33,7 +30,6 @@ pub answer-spec : {M : Type 1} → statement M
 answer-spec =
     tie.close
     (tie.spec
-    buffer-requires
     slice-aggregate-take-line
     take-line-requires
     array-share-prefix-space

@@ -9,9 +9,6 @@ use Rattle.replay.proofs.finish.Tie as tie
 answer-requires : tie.Need-answer-requires
 answer-requires c κs = search needs
 
-buffer-requires : tie.Need-buffer-requires
-buffer-requires c κs = search needs
-
 slice-aggregate-put-end : tie.Need-slice-aggregate-put-end
 slice-aggregate-put-end c = search needs
 
@@ -35,7 +32,6 @@ finish-spec =
     tie.close
     (tie.spec
     answer-requires
-    buffer-requires
     slice-aggregate-put-end
     put-end-requires
     array-share-prefix-space

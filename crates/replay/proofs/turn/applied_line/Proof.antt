@@ -1,4 +1,5 @@
 -- `replay::turn::applied_line` meets its contract.
+use native.Mathlib.Omega.{arith}
 use Rattle.replay.proofs.TurnLaws.{given-fits, step-answered}
 use borrow.Author.Needs.{needs}
 use Rattle.replay.proofs.turn.applied_line.Statement.{statement}
@@ -27,19 +28,23 @@ slice-aggregate-put-given-3 c = search needs
 
 put-given-requires : tie.Need-put-given-requires
 put-given-requires c κs =
-    let a = c .before .before .before .before .before .before .before .before .before .before .before .before .before .before .before .before .before .args in
-    let r = c .before .before .before .before .before .before .before .before .apply in
-    given-fits (a .e) (a .c) (a .octets .now) (a .auth .now) (a .read .now) (a .write .now) (r .result) _ _ _ (r .ensures .0) (r .ensures .1) (r .ensures .2) (r .ensures .3) _ (c .before .before .before .before .before .before .before .tek2 .given) (c .before .before .before .before .before .before .vector2 .given) (c .before .before .before .before .before .sent2 .given) (c .before .before .before .before .before .before .before .before .before .before .before .before .before .before .before .before .before .pre)
+    let a = c .before .before .before .before .before .before .before .before .before .before .before .before .before .before .before .before .before .before .before .before .before .before .args in
+    let r = c .before .before .before .before .before .before .before .before .before .before .before .apply in
+    let pre = c .before .before .before .before .before .before .before .before .before .before .before .before .before .before .before .before .before .before .before .before .before .before .pre in
+    given-fits (a .e) (a .c) (a .octets .now) (a .auth .now) (a .read .now) (a .write .now) (a .frame .now) (r .result) _ _ _ _ (r .ensures .0) (r .ensures .1) (r .ensures .2) (r .ensures .3) (r .ensures .4) _ (c .before .before .before .before .before .before .before .before .before .before .tek2 .given) (c .before .before .before .before .before .before .before .before .before .vector2 .given) (c .before .before .before .before .before .before .before .before .sent2 .given) (omega (arith, c .before .before .before .before .before .before .before .frame .given, pre .0)) (pre .1)
 
 same-length : tie.Need-same-length
 same-length c = search needs
 
+same-length-2 : tie.Need-same-length-2
+same-length-2 c = search needs
+
 returns : tie.Need-returns
 returns c =
-    let a = c .before .before .before .before .before .before .before .before .before .before .before .before .before .before .before .before .before .before .before .before .args in
-    let r = c .before .before .before .before .before .before .before .before .before .before .before .apply in
+    let a = c .before .before .before .before .before .before .before .before .before .before .before .before .before .before .before .before .before .before .before .before .before .before .before .before .before .args in
+    let r = c .before .before .before .before .before .before .before .before .before .before .before .before .before .before .apply in
     let put = c .before .before .put-given .ensures in
-    (step-answered (a .e) (a .c) (a .octets .now) (a .auth .now) (a .read .now) (a .write .now) (r .result) _ _ _ (r .ensures .0) (r .ensures .1) (r .ensures .2) (r .ensures .3) _ _ _ _ (put .0), put .1)
+    (step-answered (a .e) (a .c) (a .octets .now) (a .auth .now) (a .read .now) (a .write .now) (a .frame .now) (r .result) _ _ _ _ (r .ensures .0) (r .ensures .1) (r .ensures .2) (r .ensures .3) (r .ensures .4) _ _ _ _ (put .0), put .1)
 
 pub applied-line-spec : {M : Type 1} → statement M
 applied-line-spec =
@@ -54,4 +59,5 @@ applied-line-spec =
     slice-aggregate-put-given-3
     put-given-requires
     same-length
+    same-length-2
     returns)

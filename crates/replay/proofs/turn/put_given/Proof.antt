@@ -6,13 +6,16 @@ use Rattle.replay.proofs.turn.put_given.Statement.{statement}
 use Rattle.replay.proofs.turn.put_given.Tie as tie
 
 slice-aggregate-put-answer : tie.Need-slice-aggregate-put-answer
-slice-aggregate-put-answer c = sym (length-take-le _ _ (c .before .before .before .before .before .before .pre .tek-there))
+slice-aggregate-put-answer c = sym (length-take-le _ _ (c .before .before .before .before .before .before .before .pre .tek-there))
 
 slice-aggregate-put-answer-2 : tie.Need-slice-aggregate-put-answer-2
-slice-aggregate-put-answer-2 c = sym (length-take-le _ _ (c .before .before .before .before .before .before .before .pre .vector-there))
+slice-aggregate-put-answer-2 c = sym (length-take-le _ _ (c .before .before .before .before .before .before .before .before .pre .vector-there))
 
 slice-aggregate-put-answer-3 : tie.Need-slice-aggregate-put-answer-3
-slice-aggregate-put-answer-3 c = sym (length-take-le _ _ (c .before .before .before .before .before .before .before .before .pre .sent-there))
+slice-aggregate-put-answer-3 c = sym (length-take-le _ _ (c .before .before .before .before .before .before .before .before .before .pre .frame-there))
+
+slice-aggregate-put-answer-4 : tie.Need-slice-aggregate-put-answer-4
+slice-aggregate-put-answer-4 c = sym (length-take-le _ _ (c .before .before .before .before .before .before .before .before .before .before .pre .sent-there))
 
 put-answer-requires : tie.Need-put-answer-requires
 put-answer-requires c κs = search needs
@@ -30,6 +33,7 @@ put-given-spec =
     slice-aggregate-put-answer
     slice-aggregate-put-answer-2
     slice-aggregate-put-answer-3
+    slice-aggregate-put-answer-4
     put-answer-requires
     same-length
     returns)

@@ -23,7 +23,7 @@ same-length c = search needs
 returns : tie.Need-returns
 unfolding answerText
 returns c =
-    let p = line-put (then-put (then-put (decimal-put (now (c .before .before .before .before .before .before .before .before .before .before .before .before .before .before .before .before .args .out)) 0 (c .before .before .before .before .before .before .before .before .before .before .before .before .before .before .before .before .args .number) _ _ (c .before .before .before .before .before .before .before .before .before .before .put-decimal .ensures .0) (c .before .before .before .before .before .before .before .before .before .before .put-decimal .ensures .1 .0)) (c .before .before .before .before .before .before .put-rest .ensures .0)) (c .before .before .put-octet .ensures .0)) (omega (arith, c .before .before .put-octet .ensures .1, c .before .before .before .before .before .before .put-rest .ensures .1, c .before .before .before .before .before .before .before .before .before .before .put-decimal .ensures .1 .1, c .before .before .before .before .before .before .before .before .before .before .before .before .before .before .before .before .pre .out-fits)) in
+    let p = line-put (then-put (then-put (decimal-put (now (c .before .before .before .before .before .before .before .before .before .before .before .before .before .before .before .before .before .args .out)) 0 (c .before .before .before .before .before .before .before .before .before .before .before .before .before .before .before .before .before .args .number) _ _ (c .before .before .before .before .before .before .before .before .before .before .put-decimal .ensures .0) (c .before .before .before .before .before .before .before .before .before .before .put-decimal .ensures .1 .0)) (c .before .before .before .before .before .before .put-rest .ensures .0)) (c .before .before .put-octet .ensures .0)) (omega (arith, c .before .before .put-octet .ensures .1, c .before .before .before .before .before .before .put-rest .ensures .1, c .before .before .before .before .before .before .before .before .before .before .put-decimal .ensures .1 .1, c .before .before .before .before .before .before .before .before .before .before .before .before .before .before .before .before .before .pre .out-fits)) in
     (p .0, (p .1, omega (arith, c .before .before .put-octet .ensures .1, c .before .before .before .before .before .before .put-rest .ensures .1, c .before .before .before .before .before .before .before .before .before .before .put-decimal .ensures .1 .1)))
 
 pub put-answer-spec : {M : Type 1} → statement M

@@ -1,6 +1,6 @@
 -- `replay_apply::apply::apply` meets its contract.
 use mathlib.Core.Path.{refl}
-use Rattle.replay_read.specs.declared.calls.Kind.the-variants.{List as KindList, Clock, Established, Reauth, Up, Down, SealDown, SealUp, OpenUp, OpenDown}
+use Rattle.replay_read.specs.declared.calls.Kind.the-variants.{List as KindList, Clock, Established, Reauth, Up, Down, SealDown, SealUp, OpenUp, OpenDown, SealDownFrame, SealUpFrame, OpenUpFrame, OpenDownFrame}
 use Rattle.replay_apply.proofs.ApplyLaws.{applies-as}
 use borrow.Author.Needs.{needs}
 use Rattle.replay_apply.proofs.apply.apply.Statement.{statement}
@@ -66,44 +66,80 @@ enum-told-10 c = search needs
 apply-open-down-requires : tie.Need-apply-open-down-requires
 apply-open-down-requires c κs = search needs
 
+enum-told-11 : tie.Need-enum-told-11
+enum-told-11 c = search needs
+
+apply-seal-down-frame-requires : tie.Need-apply-seal-down-frame-requires
+apply-seal-down-frame-requires c κs = search needs
+
+enum-told-12 : tie.Need-enum-told-12
+enum-told-12 c = search needs
+
+apply-seal-up-frame-requires : tie.Need-apply-seal-up-frame-requires
+apply-seal-up-frame-requires c κs = search needs
+
+enum-told-13 : tie.Need-enum-told-13
+enum-told-13 c = search needs
+
+apply-open-up-frame-requires : tie.Need-apply-open-up-frame-requires
+apply-open-up-frame-requires c κs = search needs
+
+enum-told-14 : tie.Need-enum-told-14
+enum-told-14 c = search needs
+
+apply-open-down-frame-requires : tie.Need-apply-open-down-frame-requires
+apply-open-down-frame-requires c κs = search needs
+
 returns : tie.Need-returns
 returns c =
-    applies-as (c .before .before .before .before .before .before .before .before .before .before .args .e) (c .before .before .before .before .before .before .before .before .before .before .args .c) (c .before .before .before .before .before .before .before .before .before .before .args .octets .now) (c .before .before .before .before .before .before .before .before .before .before .args .auth .now) (c .before .before .before .before .before .before .before .before .before .before .args .read .now) (c .before .before .before .before .before .before .before .before .before .before .args .write .now) (c .before .before .before .before .before .before .before .before .before .before .args .tek .now) (c .before .before .before .before .before .before .before .before .before .before .args .vector .now) (c .before .before .before .before .before .before .before .before .before .before .args .out .now) KindList _ _ _ _ (c .before .enum-told .given .1) (c .apply-list .ensures, refl, refl, refl)
+    let a = c .before .before .before .before .before .before .before .before .before .before .before .args in
+    let done = c .apply-list in
+    applies-as (a .e) (a .c) (a .octets .now) (a .auth .now) (a .read .now) (a .write .now) (a .tek .now) (a .vector .now) (a .out .now) (a .frame .now) KindList _ _ _ _ _ (c .before .enum-told .given .1) (done .ensures, refl, refl, refl, refl)
 
 same-length : tie.Need-same-length
 same-length c = search needs
 
 returns-2 : tie.Need-returns-2
 returns-2 c =
-    applies-as (c .before .before .before .before .before .before .before .before .before .before .before .before .before .args .e) (c .before .before .before .before .before .before .before .before .before .before .before .before .before .args .c) (c .before .before .before .before .before .before .before .before .before .before .before .before .before .args .octets .now) (c .before .before .before .before .before .before .before .before .before .before .before .before .before .args .auth .now) (c .before .before .before .before .before .before .before .before .before .before .before .before .before .args .read .now) (c .before .before .before .before .before .before .before .before .before .before .before .before .before .args .write .now) (c .before .before .before .before .before .before .before .before .before .before .before .before .before .args .tek .now) (c .before .before .before .before .before .before .before .before .before .before .before .before .before .args .vector .now) (c .before .before .before .before .before .before .before .before .before .before .before .before .before .args .out .now) Clock _ _ _ _ (c .before .before .before .before .enum-told2 .given .1) (c .before .before .apply-clock .ensures .0, refl, refl, c .before .before .apply-clock .ensures .1)
+    let a = c .before .before .before .before .before .before .before .before .before .before .before .before .before .before .args in
+    let done = c .before .before .apply-clock in
+    applies-as (a .e) (a .c) (a .octets .now) (a .auth .now) (a .read .now) (a .write .now) (a .tek .now) (a .vector .now) (a .out .now) (a .frame .now) Clock _ _ _ _ _ (c .before .before .before .before .enum-told2 .given .1) (done .ensures .0, refl, refl, done .ensures .1, refl)
 
 same-length-2 : tie.Need-same-length-2
 same-length-2 c = search needs
 
 returns-3 : tie.Need-returns-3
 returns-3 c =
-    applies-as (c .before .before .before .before .before .before .before .before .before .before .before .before .before .args .e) (c .before .before .before .before .before .before .before .before .before .before .before .before .before .args .c) (c .before .before .before .before .before .before .before .before .before .before .before .before .before .args .octets .now) (c .before .before .before .before .before .before .before .before .before .before .before .before .before .args .auth .now) (c .before .before .before .before .before .before .before .before .before .before .before .before .before .args .read .now) (c .before .before .before .before .before .before .before .before .before .before .before .before .before .args .write .now) (c .before .before .before .before .before .before .before .before .before .before .before .before .before .args .tek .now) (c .before .before .before .before .before .before .before .before .before .before .before .before .before .args .vector .now) (c .before .before .before .before .before .before .before .before .before .before .before .before .before .args .out .now) Established _ _ _ _ (c .before .before .before .before .enum-told3 .given .1) (c .before .before .apply-established .ensures .0, refl, refl, c .before .before .apply-established .ensures .1)
+    let a = c .before .before .before .before .before .before .before .before .before .before .before .before .before .before .args in
+    let done = c .before .before .apply-established in
+    applies-as (a .e) (a .c) (a .octets .now) (a .auth .now) (a .read .now) (a .write .now) (a .tek .now) (a .vector .now) (a .out .now) (a .frame .now) Established _ _ _ _ _ (c .before .before .before .before .enum-told3 .given .1) (done .ensures .0, refl, refl, done .ensures .1, refl)
 
 same-length-3 : tie.Need-same-length-3
 same-length-3 c = search needs
 
 returns-4 : tie.Need-returns-4
 returns-4 c =
-    applies-as (c .before .before .before .before .before .before .before .before .before .before .before .before .before .args .e) (c .before .before .before .before .before .before .before .before .before .before .before .before .before .args .c) (c .before .before .before .before .before .before .before .before .before .before .before .before .before .args .octets .now) (c .before .before .before .before .before .before .before .before .before .before .before .before .before .args .auth .now) (c .before .before .before .before .before .before .before .before .before .before .before .before .before .args .read .now) (c .before .before .before .before .before .before .before .before .before .before .before .before .before .args .write .now) (c .before .before .before .before .before .before .before .before .before .before .before .before .before .args .tek .now) (c .before .before .before .before .before .before .before .before .before .before .before .before .before .args .vector .now) (c .before .before .before .before .before .before .before .before .before .before .before .before .before .args .out .now) Reauth _ _ _ _ (c .before .before .before .before .enum-told4 .given .1) (c .before .before .apply-reauth .ensures .0, refl, refl, c .before .before .apply-reauth .ensures .1)
+    let a = c .before .before .before .before .before .before .before .before .before .before .before .before .before .before .args in
+    let done = c .before .before .apply-reauth in
+    applies-as (a .e) (a .c) (a .octets .now) (a .auth .now) (a .read .now) (a .write .now) (a .tek .now) (a .vector .now) (a .out .now) (a .frame .now) Reauth _ _ _ _ _ (c .before .before .before .before .enum-told4 .given .1) (done .ensures .0, refl, refl, done .ensures .1, refl)
 
 same-length-4 : tie.Need-same-length-4
 same-length-4 c = search needs
 
 returns-5 : tie.Need-returns-5
 returns-5 c =
-    applies-as (c .before .before .before .before .before .before .before .before .before .before .before .before .before .args .e) (c .before .before .before .before .before .before .before .before .before .before .before .before .before .args .c) (c .before .before .before .before .before .before .before .before .before .before .before .before .before .args .octets .now) (c .before .before .before .before .before .before .before .before .before .before .before .before .before .args .auth .now) (c .before .before .before .before .before .before .before .before .before .before .before .before .before .args .read .now) (c .before .before .before .before .before .before .before .before .before .before .before .before .before .args .write .now) (c .before .before .before .before .before .before .before .before .before .before .before .before .before .args .tek .now) (c .before .before .before .before .before .before .before .before .before .before .before .before .before .args .vector .now) (c .before .before .before .before .before .before .before .before .before .before .before .before .before .args .out .now) Up _ _ _ _ (c .before .before .before .before .enum-told5 .given .1) (c .before .before .apply-up .ensures .0, refl, refl, c .before .before .apply-up .ensures .1)
+    let a = c .before .before .before .before .before .before .before .before .before .before .before .before .before .before .args in
+    let done = c .before .before .apply-up in
+    applies-as (a .e) (a .c) (a .octets .now) (a .auth .now) (a .read .now) (a .write .now) (a .tek .now) (a .vector .now) (a .out .now) (a .frame .now) Up _ _ _ _ _ (c .before .before .before .before .enum-told5 .given .1) (done .ensures .0, refl, refl, done .ensures .1, refl)
 
 same-length-5 : tie.Need-same-length-5
 same-length-5 c = search needs
 
 returns-6 : tie.Need-returns-6
 returns-6 c =
-    applies-as (c .before .before .before .before .before .before .before .before .before .before .before .before .before .args .e) (c .before .before .before .before .before .before .before .before .before .before .before .before .before .args .c) (c .before .before .before .before .before .before .before .before .before .before .before .before .before .args .octets .now) (c .before .before .before .before .before .before .before .before .before .before .before .before .before .args .auth .now) (c .before .before .before .before .before .before .before .before .before .before .before .before .before .args .read .now) (c .before .before .before .before .before .before .before .before .before .before .before .before .before .args .write .now) (c .before .before .before .before .before .before .before .before .before .before .before .before .before .args .tek .now) (c .before .before .before .before .before .before .before .before .before .before .before .before .before .args .vector .now) (c .before .before .before .before .before .before .before .before .before .before .before .before .before .args .out .now) Down _ _ _ _ (c .before .before .before .before .enum-told6 .given .1) (c .before .before .apply-down .ensures .0, refl, refl, c .before .before .apply-down .ensures .1)
+    let a = c .before .before .before .before .before .before .before .before .before .before .before .before .before .before .args in
+    let done = c .before .before .apply-down in
+    applies-as (a .e) (a .c) (a .octets .now) (a .auth .now) (a .read .now) (a .write .now) (a .tek .now) (a .vector .now) (a .out .now) (a .frame .now) Down _ _ _ _ _ (c .before .before .before .before .enum-told6 .given .1) (done .ensures .0, refl, refl, done .ensures .1, refl)
 
 same-length-6 : tie.Need-same-length-6
 same-length-6 c = search needs
@@ -113,7 +149,9 @@ same-length-7 c = search needs
 
 returns-7 : tie.Need-returns-7
 returns-7 c =
-    applies-as (c .before .before .before .before .before .before .before .before .before .before .before .before .before .before .before .before .args .e) (c .before .before .before .before .before .before .before .before .before .before .before .before .before .before .before .before .args .c) (c .before .before .before .before .before .before .before .before .before .before .before .before .before .before .before .before .args .octets .now) (c .before .before .before .before .before .before .before .before .before .before .before .before .before .before .before .before .args .auth .now) (c .before .before .before .before .before .before .before .before .before .before .before .before .before .before .before .before .args .read .now) (c .before .before .before .before .before .before .before .before .before .before .before .before .before .before .before .before .args .write .now) (c .before .before .before .before .before .before .before .before .before .before .before .before .before .before .before .before .args .tek .now) (c .before .before .before .before .before .before .before .before .before .before .before .before .before .before .before .before .args .vector .now) (c .before .before .before .before .before .before .before .before .before .before .before .before .before .before .before .before .args .out .now) SealDown _ _ _ _ (c .before .before .before .before .before .before .before .enum-told7 .given .1) (c .before .before .before .before .apply-seal-down .ensures .0, c .before .before .before .before .apply-seal-down .ensures .1, c .before .before .before .before .apply-seal-down .ensures .2, refl)
+    let a = c .before .before .before .before .before .before .before .before .before .before .before .before .before .before .before .before .before .args in
+    let done = c .before .before .before .before .apply-seal-down in
+    applies-as (a .e) (a .c) (a .octets .now) (a .auth .now) (a .read .now) (a .write .now) (a .tek .now) (a .vector .now) (a .out .now) (a .frame .now) SealDown _ _ _ _ _ (c .before .before .before .before .before .before .before .enum-told7 .given .1) (done .ensures .0, done .ensures .1, done .ensures .2, refl, refl)
 
 same-length-8 : tie.Need-same-length-8
 same-length-8 c = search needs
@@ -123,7 +161,9 @@ same-length-9 c = search needs
 
 returns-8 : tie.Need-returns-8
 returns-8 c =
-    applies-as (c .before .before .before .before .before .before .before .before .before .before .before .before .before .before .before .before .args .e) (c .before .before .before .before .before .before .before .before .before .before .before .before .before .before .before .before .args .c) (c .before .before .before .before .before .before .before .before .before .before .before .before .before .before .before .before .args .octets .now) (c .before .before .before .before .before .before .before .before .before .before .before .before .before .before .before .before .args .auth .now) (c .before .before .before .before .before .before .before .before .before .before .before .before .before .before .before .before .args .read .now) (c .before .before .before .before .before .before .before .before .before .before .before .before .before .before .before .before .args .write .now) (c .before .before .before .before .before .before .before .before .before .before .before .before .before .before .before .before .args .tek .now) (c .before .before .before .before .before .before .before .before .before .before .before .before .before .before .before .before .args .vector .now) (c .before .before .before .before .before .before .before .before .before .before .before .before .before .before .before .before .args .out .now) SealUp _ _ _ _ (c .before .before .before .before .before .before .before .enum-told8 .given .1) (c .before .before .before .before .apply-seal-up .ensures .0, c .before .before .before .before .apply-seal-up .ensures .1, c .before .before .before .before .apply-seal-up .ensures .2, refl)
+    let a = c .before .before .before .before .before .before .before .before .before .before .before .before .before .before .before .before .before .args in
+    let done = c .before .before .before .before .apply-seal-up in
+    applies-as (a .e) (a .c) (a .octets .now) (a .auth .now) (a .read .now) (a .write .now) (a .tek .now) (a .vector .now) (a .out .now) (a .frame .now) SealUp _ _ _ _ _ (c .before .before .before .before .before .before .before .enum-told8 .given .1) (done .ensures .0, done .ensures .1, done .ensures .2, refl, refl)
 
 same-length-10 : tie.Need-same-length-10
 same-length-10 c = search needs
@@ -136,7 +176,9 @@ same-length-12 c = search needs
 
 returns-9 : tie.Need-returns-9
 returns-9 c =
-    applies-as (c .before .before .before .before .before .before .before .before .before .before .before .before .before .before .before .before .before .before .before .args .e) (c .before .before .before .before .before .before .before .before .before .before .before .before .before .before .before .before .before .before .before .args .c) (c .before .before .before .before .before .before .before .before .before .before .before .before .before .before .before .before .before .before .before .args .octets .now) (c .before .before .before .before .before .before .before .before .before .before .before .before .before .before .before .before .before .before .before .args .auth .now) (c .before .before .before .before .before .before .before .before .before .before .before .before .before .before .before .before .before .before .before .args .read .now) (c .before .before .before .before .before .before .before .before .before .before .before .before .before .before .before .before .before .before .before .args .write .now) (c .before .before .before .before .before .before .before .before .before .before .before .before .before .before .before .before .before .before .before .args .tek .now) (c .before .before .before .before .before .before .before .before .before .before .before .before .before .before .before .before .before .before .before .args .vector .now) (c .before .before .before .before .before .before .before .before .before .before .before .before .before .before .before .before .before .before .before .args .out .now) OpenUp _ _ _ _ (c .before .before .before .before .before .before .before .before .before .before .enum-told9 .given .1) (c .before .before .before .before .before .before .apply-open-up .ensures .0, c .before .before .before .before .before .before .apply-open-up .ensures .1, c .before .before .before .before .before .before .apply-open-up .ensures .2, c .before .before .before .before .before .before .apply-open-up .ensures .3)
+    let a = c .before .before .before .before .before .before .before .before .before .before .before .before .before .before .before .before .before .before .before .before .args in
+    let done = c .before .before .before .before .before .before .apply-open-up in
+    applies-as (a .e) (a .c) (a .octets .now) (a .auth .now) (a .read .now) (a .write .now) (a .tek .now) (a .vector .now) (a .out .now) (a .frame .now) OpenUp _ _ _ _ _ (c .before .before .before .before .before .before .before .before .before .before .enum-told9 .given .1) (done .ensures .0, done .ensures .1, done .ensures .2, done .ensures .3, refl)
 
 same-length-13 : tie.Need-same-length-13
 same-length-13 c = search needs
@@ -149,7 +191,51 @@ same-length-15 c = search needs
 
 returns-10 : tie.Need-returns-10
 returns-10 c =
-    applies-as (c .before .before .before .before .before .before .before .before .before .before .before .before .before .before .before .before .before .before .before .args .e) (c .before .before .before .before .before .before .before .before .before .before .before .before .before .before .before .before .before .before .before .args .c) (c .before .before .before .before .before .before .before .before .before .before .before .before .before .before .before .before .before .before .before .args .octets .now) (c .before .before .before .before .before .before .before .before .before .before .before .before .before .before .before .before .before .before .before .args .auth .now) (c .before .before .before .before .before .before .before .before .before .before .before .before .before .before .before .before .before .before .before .args .read .now) (c .before .before .before .before .before .before .before .before .before .before .before .before .before .before .before .before .before .before .before .args .write .now) (c .before .before .before .before .before .before .before .before .before .before .before .before .before .before .before .before .before .before .before .args .tek .now) (c .before .before .before .before .before .before .before .before .before .before .before .before .before .before .before .before .before .before .before .args .vector .now) (c .before .before .before .before .before .before .before .before .before .before .before .before .before .before .before .before .before .before .before .args .out .now) OpenDown _ _ _ _ (c .before .before .before .before .before .before .before .before .before .before .enum-told10 .given .1) (c .before .before .before .before .before .before .apply-open-down .ensures .0, c .before .before .before .before .before .before .apply-open-down .ensures .1, c .before .before .before .before .before .before .apply-open-down .ensures .2, c .before .before .before .before .before .before .apply-open-down .ensures .3)
+    let a = c .before .before .before .before .before .before .before .before .before .before .before .before .before .before .before .before .before .before .before .before .args in
+    let done = c .before .before .before .before .before .before .apply-open-down in
+    applies-as (a .e) (a .c) (a .octets .now) (a .auth .now) (a .read .now) (a .write .now) (a .tek .now) (a .vector .now) (a .out .now) (a .frame .now) OpenDown _ _ _ _ _ (c .before .before .before .before .before .before .before .before .before .before .enum-told10 .given .1) (done .ensures .0, done .ensures .1, done .ensures .2, done .ensures .3, refl)
+
+same-length-16 : tie.Need-same-length-16
+same-length-16 c = search needs
+
+returns-11 : tie.Need-returns-11
+returns-11 c =
+    let a = c .before .before .before .before .before .before .before .before .before .before .before .before .before .before .args in
+    let done = c .before .before .apply-seal-down-frame in
+    applies-as (a .e) (a .c) (a .octets .now) (a .auth .now) (a .read .now) (a .write .now) (a .tek .now) (a .vector .now) (a .out .now) (a .frame .now) SealDownFrame _ _ _ _ _ (c .before .before .before .before .enum-told11 .given .1) (done .ensures .0, refl, refl, refl, done .ensures .1)
+
+same-length-17 : tie.Need-same-length-17
+same-length-17 c = search needs
+
+returns-12 : tie.Need-returns-12
+returns-12 c =
+    let a = c .before .before .before .before .before .before .before .before .before .before .before .before .before .before .args in
+    let done = c .before .before .apply-seal-up-frame in
+    applies-as (a .e) (a .c) (a .octets .now) (a .auth .now) (a .read .now) (a .write .now) (a .tek .now) (a .vector .now) (a .out .now) (a .frame .now) SealUpFrame _ _ _ _ _ (c .before .before .before .before .enum-told12 .given .1) (done .ensures .0, refl, refl, refl, done .ensures .1)
+
+same-length-18 : tie.Need-same-length-18
+same-length-18 c = search needs
+
+same-length-19 : tie.Need-same-length-19
+same-length-19 c = search needs
+
+returns-13 : tie.Need-returns-13
+returns-13 c =
+    let a = c .before .before .before .before .before .before .before .before .before .before .before .before .before .before .before .before .before .args in
+    let done = c .before .before .before .before .apply-open-up-frame in
+    applies-as (a .e) (a .c) (a .octets .now) (a .auth .now) (a .read .now) (a .write .now) (a .tek .now) (a .vector .now) (a .out .now) (a .frame .now) OpenUpFrame _ _ _ _ _ (c .before .before .before .before .before .before .before .enum-told13 .given .1) (done .ensures .0, refl, refl, done .ensures .2, done .ensures .1)
+
+same-length-20 : tie.Need-same-length-20
+same-length-20 c = search needs
+
+same-length-21 : tie.Need-same-length-21
+same-length-21 c = search needs
+
+returns-14 : tie.Need-returns-14
+returns-14 c =
+    let a = c .before .before .before .before .before .before .before .before .before .before .before .before .before .before .before .before .before .args in
+    let done = c .before .before .before .before .apply-open-down-frame in
+    applies-as (a .e) (a .c) (a .octets .now) (a .auth .now) (a .read .now) (a .write .now) (a .tek .now) (a .vector .now) (a .out .now) (a .frame .now) OpenDownFrame _ _ _ _ _ (c .before .before .before .before .before .before .before .enum-told14 .given .1) (done .ensures .0, refl, refl, done .ensures .2, done .ensures .1)
 
 pub apply-spec : {M : Type 1} → statement M
 apply-spec =
@@ -175,6 +261,14 @@ apply-spec =
     apply-open-up-requires
     enum-told-10
     apply-open-down-requires
+    enum-told-11
+    apply-seal-down-frame-requires
+    enum-told-12
+    apply-seal-up-frame-requires
+    enum-told-13
+    apply-open-up-frame-requires
+    enum-told-14
+    apply-open-down-frame-requires
     returns
     same-length
     returns-2
@@ -199,4 +293,14 @@ apply-spec =
     same-length-13
     same-length-14
     same-length-15
-    returns-10)
+    returns-10
+    same-length-16
+    returns-11
+    same-length-17
+    returns-12
+    same-length-18
+    same-length-19
+    returns-13
+    same-length-20
+    same-length-21
+    returns-14)

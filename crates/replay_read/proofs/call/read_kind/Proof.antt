@@ -66,6 +66,30 @@ enum-told-10 c = search needs
 read-open-requires-2 : tie.Need-read-open-requires-2
 read-open-requires-2 c κs = search needs
 
+enum-told-11 : tie.Need-enum-told-11
+enum-told-11 c = search needs
+
+read-seal-down-frame-requires : tie.Need-read-seal-down-frame-requires
+read-seal-down-frame-requires c κs = search needs
+
+enum-told-12 : tie.Need-enum-told-12
+enum-told-12 c = search needs
+
+read-seal-up-frame-requires : tie.Need-read-seal-up-frame-requires
+read-seal-up-frame-requires c κs = search needs
+
+enum-told-13 : tie.Need-enum-told-13
+enum-told-13 c = search needs
+
+read-open-frame-requires : tie.Need-read-open-frame-requires
+read-open-frame-requires c κs = search needs
+
+enum-told-14 : tie.Need-enum-told-14
+enum-told-14 c = search needs
+
+read-open-frame-requires-2 : tie.Need-read-open-frame-requires-2
+read-open-frame-requires-2 c κs = search needs
+
 returns : tie.Need-returns
 returns c =
     let a = c .before .before .before .before .args in
@@ -126,6 +150,30 @@ returns-10 c =
     let read-open2 = c .read-open2 in
     kind-reads (now (a .line)) (a .kind) kind.OpenDown (read-open2 .result) (c .before .enum-told10 .given .1) (read-open2 .ensures)
 
+returns-11 : tie.Need-returns-11
+returns-11 c =
+    let a = c .before .before .before .before .args in
+    let read-seal-down-frame = c .read-seal-down-frame in
+    kind-reads (now (a .line)) (a .kind) kind.SealDownFrame (read-seal-down-frame .result) (c .before .enum-told11 .given .1) (read-seal-down-frame .ensures)
+
+returns-12 : tie.Need-returns-12
+returns-12 c =
+    let a = c .before .before .before .before .args in
+    let read-seal-up-frame = c .read-seal-up-frame in
+    kind-reads (now (a .line)) (a .kind) kind.SealUpFrame (read-seal-up-frame .result) (c .before .enum-told12 .given .1) (read-seal-up-frame .ensures)
+
+returns-13 : tie.Need-returns-13
+returns-13 c =
+    let a = c .before .before .before .before .args in
+    let read-open-frame = c .read-open-frame in
+    kind-reads (now (a .line)) (a .kind) kind.OpenUpFrame (read-open-frame .result) (c .before .enum-told13 .given .1) (read-open-frame .ensures)
+
+returns-14 : tie.Need-returns-14
+returns-14 c =
+    let a = c .before .before .before .before .args in
+    let read-open-frame2 = c .read-open-frame2 in
+    kind-reads (now (a .line)) (a .kind) kind.OpenDownFrame (read-open-frame2 .result) (c .before .enum-told14 .given .1) (read-open-frame2 .ensures)
+
 pub read-kind-spec : {M : Type 1} → statement M
 read-kind-spec =
     tie.close
@@ -150,6 +198,14 @@ read-kind-spec =
     read-open-requires
     enum-told-10
     read-open-requires-2
+    enum-told-11
+    read-seal-down-frame-requires
+    enum-told-12
+    read-seal-up-frame-requires
+    enum-told-13
+    read-open-frame-requires
+    enum-told-14
+    read-open-frame-requires-2
     returns
     returns-2
     returns-3
@@ -159,4 +215,8 @@ read-kind-spec =
     returns-7
     returns-8
     returns-9
-    returns-10)
+    returns-10
+    returns-11
+    returns-12
+    returns-13
+    returns-14)

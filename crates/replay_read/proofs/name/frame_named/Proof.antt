@@ -75,15 +75,19 @@ returns-4 c =
     )
     (c .known4 .ensures)
 
+octets-named-requires : tie.Need-octets-named-requires
+octets-named-requires c κs = search needs
+
 returns-5 : tie.Need-returns-5
 unfolding frameNamed
 returns-5 c =
     simp (
-      sym (c .before .before .before .before .before .before .before .before .before .before .same .ensures) ∙ c .before .before .before .before .before .before .before .before .before .if1 .left,
-      sym (c .before .before .before .before .before .before .before .same2 .ensures) ∙ c .before .before .before .before .before .before .if2 .left,
-      sym (c .before .before .before .before .same3 .ensures) ∙ c .before .before .before .if3 .left,
-      sym (c .before .same4 .ensures) ∙ c .if4 .left,
+      sym (c .before .before .before .before .before .before .before .before .before .before .before .same .ensures) ∙ c .before .before .before .before .before .before .before .before .before .before .if1 .left,
+      sym (c .before .before .before .before .before .before .before .before .same2 .ensures) ∙ c .before .before .before .before .before .before .before .if2 .left,
+      sym (c .before .before .before .before .before .same3 .ensures) ∙ c .before .before .before .before .if3 .left,
+      sym (c .before .before .same4 .ensures) ∙ c .before .if4 .left,
     )
+    (c .octets-named .ensures)
 
 pub frame-named-spec : {M : Type 1} → statement M
 frame-named-spec =
@@ -105,4 +109,5 @@ frame-named-spec =
     same-requires-4
     known-requires-4
     returns-4
+    octets-named-requires
     returns-5)

@@ -1,7 +1,7 @@
 -- `no_call` meets its contract.
 use borrow.Author.Needs.{needs}
-use Rattle.replay_read.proofs.call.no_call.Statement.{statement}
-use Rattle.replay_read.proofs.call.no_call.Tie as tie
+use Rattle.replay_read.proofs.kept.no_call.Statement.{statement}
+use Rattle.replay_read.proofs.kept.no_call.Tie as tie
 
 plain-call-requires : tie.Need-plain-call-requires
 plain-call-requires c κs = search needs

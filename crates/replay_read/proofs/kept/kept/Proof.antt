@@ -1,7 +1,7 @@
 -- `kept` meets its contract.
 use borrow.Author.Needs.{needs}
-use Rattle.replay_read.proofs.call.kept.Statement.{statement}
-use Rattle.replay_read.proofs.call.kept.Tie as tie
+use Rattle.replay_read.proofs.kept.kept.Statement.{statement}
+use Rattle.replay_read.proofs.kept.kept.Tie as tie
 
 returns : tie.Need-returns
 returns c = simp (c .if1 .taken)

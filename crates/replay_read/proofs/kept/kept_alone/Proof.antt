@@ -1,7 +1,7 @@
 -- `kept_alone` meets its contract.
 use borrow.Author.Needs.{needs}
-use Rattle.replay_read.proofs.call.kept_alone.Statement.{statement}
-use Rattle.replay_read.proofs.call.kept_alone.Tie as tie
+use Rattle.replay_read.proofs.kept.kept_alone.Statement.{statement}
+use Rattle.replay_read.proofs.kept.kept_alone.Tie as tie
 
 no-place-requires : tie.Need-no-place-requires
 no-place-requires c κs = search needs
