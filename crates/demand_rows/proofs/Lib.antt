@@ -14,6 +14,7 @@ pub mod RowsResent
 pub mod RowsSixteen
 pub mod RowsOctets
 pub mod RowsLate
+pub mod RowsDelivered
 pub mod RowsListed
 pub mod RowsSecond
 pub mod RowsPended

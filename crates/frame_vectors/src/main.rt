@@ -1,13 +1,17 @@
 // Prints whether published ciphertexts come out as printed: of FIPS 197 the last round key of A.1 and the blocks of B and C.1, and of document 000 the blocks and
-// frames of I.10. Each stands behind the 12 clear octets of a frame; a line has what was sealed, whether it is what was printed, and whether it opens again.
+// frames of I.10. Most stand behind the 12 clear octets of a frame; a line has what was sealed, whether it is what was printed, and whether it opens again.
+// The key and the whole blocks of CFB, which no frame has, are worked out by the cipher alone.
 ghost use Prim.Native.Nat.{_<_};
 use check::same;
+use cipher_aes::encryption::add_round_key;
+use cipher_aes::encryption::encrypt;
 use cipher_aes::encryption_table::encryption_table;
 use cipher_aes::keys::expand;
 use cipher_aes::sizes::BLOCK_OCTETS;
 use cipher_aes::sizes::ROUNDS;
 use cipher_aes::words::State;
 use cipher_aes::words::key_at;
+use cipher_cbc::block::load;
 use cipher_cbc::block::store;
 use cipher_cbc::exported::DONE;
 use cipher_cbc::exported::cipher_cbc_open;
@@ -90,6 +94,32 @@ fn show_last_key() {
     }
 }
 
+// A whole block of CFB: `plain` added to the forward cipher of the vector. Of n octets padded with zeros, the first n are their residual block (11.1).
+fn residual_row(
+    name: &[u8],
+    key: &[u8; BLOCK_OCTETS],
+    vector: &[u8; BLOCK_OCTETS],
+    plain: &[u8; BLOCK_OCTETS],
+    printed: &[u8],
+) {
+    let e = encryption_table();
+    let w = expand(&e, load(key, 0));
+    let mut out = [0u8; BLOCK_OCTETS];
+    store(
+        &mut out,
+        0,
+        add_round_key(load(plain, 0), encrypt(&e, &w, load(vector, 0))),
+    );
+    print(name);
+    print(b": ");
+    print_octets(&out);
+    if same(&out, printed) {
+        print(b" as printed\n");
+    } else {
+        print(b" DIFFERS\n");
+    }
+}
+
 // One block under a vector of zeros is the cipher alone: FIPS 197, B and C.1.
 fn standard_blocks() {
     let zeros = [0u8; BLOCK_OCTETS];
@@ -163,9 +193,36 @@ fn printed_frames() {
     );
 }
 
+// The whole blocks that I.10.2 and I.10.3 print: that of CFB, and the residual blocks of their frames, padded with zeros.
+fn printed_residuals() {
+    let key = b"\xe6\x60\x0f\xd8\x85\x2e\xf5\xab\xe6\x60\x0f\xd8\x85\x2e\xf5\xab";
+    residual_row(
+        b"I.10.2 CFB block",
+        b"\x01\x23\x45\x67\x89\xab\xcd\xef\x01\x23\x45\x67\x89\xab\xcd\xef",
+        b"\x12\x34\x56\x78\x90\xab\xcd\xef\x12\x34\x56\x78\x90\xab\xcd\xef",
+        b"\x4e\x6f\x77\x20\x69\x73\x20\x74\x68\x65\x20\x74\x69\x6d\x65\x20",
+        b"\x43\xbc\x0a\xd0\xfc\x8d\x93\xff\x80\xe0\xbf\xf1\x41\xfc\x67\x08",
+    );
+    residual_row(
+        b"I.10.2 padded",
+        key,
+        b"\x9d\xd1\x67\x4b\xba\x61\x10\x1b\x56\x75\x64\x74\x36\x4f\x10\x1d",
+        b"\xd2\xd1\x9f\x00\x00\x00\x00\x00\x00\x00\x00\x00\x00\x00\x00\x00",
+        b"\x44\xd4\x73\xdd\x83\x9c\xee\x46\x4c\xff\x83\xb7\x27\x96\xd6\x55",
+    );
+    residual_row(
+        b"I.10.3 padded",
+        key,
+        b"\x81\x0e\x52\x8e\x1c\x5f\xda\x1a\x81\x0e\x52\x8e\x1c\x5f\xda\x1a",
+        b"\x00\x01\x02\x88\xee\x59\x7e\x00\x00\x00\x00\x00\x00\x00\x00\x00",
+        b"\xfc\x68\xa3\x55\x60\x37\xdc\xd7\x4c\x6e\x5c\x5e\x50\xd5\x98\xb2",
+    );
+}
+
 fn main() {
     show_last_key();
     standard_blocks();
     printed_blocks();
     printed_frames();
+    printed_residuals();
 }
