@@ -22,10 +22,10 @@
  * - Call `clock` often, each second at best: no timer fires elsewhere. One clock has to give both ends' seconds; it never goes back.
  * - When Reject Wait has run out, the modem is in Start and stays there: call `established` again. Silent is left by no call: make a new modem.
  * - A Key Reject leaves the SAID's machine in Start, without keys, until the next Authorization Reply that lists the SAID; `reauth` asks for one.
- * - Key numbers come round after 16. The claim on frames (crates/demand_plant/specs/Demand3.antt) holds where a message to the modem arrives at most D and
- *   a frame at most F seconds after it was sent, and D and F together are at most 7 TEK lives: drop what is older; and where the modem takes nothing
- *   but copies of what its head-end sent: Authorization Reply, Reject and Invalid have no digest, so a forged one is taken. Both ends begin fresh,
- *   with the same settings.
+ * - Key numbers come round after 16. The claim on frames (crates/demand_plant/specs/Demand3.antt) holds where a message to the modem arrives at most
+ *   D and a frame at most F seconds after it was sent, and D and F together are at most 7 TEK lives: drop what is older; and where the modem takes
+ *   nothing but copies of what its head-end sent: Authorization Reply, Reject and Invalid have no digest, so a forged one is taken. Both ends begin
+ *   fresh, with the same settings.
  *
  * Copies and restarts
  * A state or records restored from an older copy, or a head-end that restarts alone, may hold other keys than the other end under the same
@@ -42,7 +42,8 @@
  * - Structs have the C compiler's padding, which is not kept: compare states field by field. They need no alignment beyond their members'.
  *   The archive is for x86-64 with the System V calling convention, and there is none for another machine.
  * - The deepest call is curlewreel_modem_receive: 13,248 octets of stack, added up in the archive's machine code (outside/depth), and 664 for the
- *   state that it gets by value; at the head-end curlewreel_headend_open_frame, 9,408 and 1,136. No call recurses, and none takes more for longer input.
+ *   state that it gets by value; at the head-end curlewreel_headend_open_frame, 9,408 and 1,136. No call recurses, and none takes more for longer
+ *   input.
  * - Keys stay on the dead stack after a call, as in each copy of a state or a record. curlewreel_wipe_stack overwrites the one, the copies are
  *   yours to clear. */
 #ifndef CURLEWREEL_H
@@ -75,9 +76,9 @@ extern "C" {
  *   curlewreel_read              the AK that the message names, its own way  none
  *   curlewreel_write             none                                        the AK of the fields, its own way
  *
- * `established` and `reauth` write messages without a digest, `list`, `seal`, `seal_frame` and the head-end's `clock` write none: they take no key. Which AK a
- * message names curlewreel_read tells before the call, lent any 20 octets: CURLEWREEL_FIELD_AK_NUMBER. It never answers 12. Read with the right key, it tells
- * too whether the digest holds.
+ * `established` and `reauth` write messages without a digest, `list`, `seal`, `seal_frame` and the head-end's `clock` write none: they take no key.
+ * Which AK a message names curlewreel_read tells before the call, lent any 20 octets: CURLEWREEL_FIELD_AK_NUMBER. It never answers 12. Read with the
+ * right key, it tells too whether the digest holds.
  * Where you have no key of the AK that a message names: at the head-end any 20 octets do for `read_key`, since error 4 comes before error 5 (an AK that
  * is active there is one that you made). At the modem drop a Key Reply, a Key Reject or a TEK Invalid: the AK that it names is not asked there, and with
  * octets that others know for `read_key` it would be taken from whoever signed it with them.

@@ -5,19 +5,24 @@
 use crate::plant::{frames::LENGTHS, unhex, Plant};
 use crate::tally::{fail, number_of};
 use curlewreel_outside::cipher::{opened, CLEAR};
+use curlewreel_outside::digest::KEY;
 use curlewreel_outside::frame::SHORT_FRAME;
 use std::collections::BTreeMap;
 
 /// The calls by their lines.
 const CALLS: [&str; 4] = ["sealdownframe", "sealupframe", "openupframe", "opendownframe"];
 
-/// Of the lengths on purpose those that are sealed.
-const SEALED: usize = 7;
+/// Of the lengths on purpose those that are refused with 15, and those that are sealed.
+const SHORT: usize = 3;
+const SEALED: usize = LENGTHS.len() - SHORT;
+
+/// A TEK and its vector, as the outside implementation holds them.
+type Key = (Vec<u8>, Vec<u8>);
 
 #[derive(Default)]
 pub struct Frames {
-    /// What these calls sealed in this list: the octets before, by direction and octets after.
-    sealed: BTreeMap<(u64, Vec<u8>), Vec<u8>>,
+    /// What these calls sealed in this list: the octets before and the key, by direction, address, SAID, number and octets after.
+    sealed: BTreeMap<([u64; 4], Vec<u8>), (Vec<u8>, Key)>,
     /// The last octets, before and after, by direction, address, SAID and number.
     last: BTreeMap<[u64; 4], (Vec<u8>, Vec<u8>)>,
     /// Frames taken at both ends before a call.
@@ -27,9 +32,12 @@ pub struct Frames {
     of_des: [u64; 4],
     narrow: [u64; 4],
     short_and_narrow: [u64; 4],
+    /// By call and length on purpose: 15.
+    short_by_length: [[u64; SHORT]; 4],
     /// 13 at the head-end and at the modem, and 14.
     no_key: [u64; 3],
-    /// By direction and length: opened to its own octets; and how many were, of any length, and were not, their number being another key's by then.
+    /// Of what these calls sealed, under the fields that it was sealed with: opened with the key that sealed it to its own octets, by direction and
+    /// length, and of any length; and opened with another key to other octets.
     own: [[u64; SEALED]; 2],
     all_own: u64,
     others: u64,
@@ -54,7 +62,11 @@ impl Frames {
         let before = std::mem::replace(&mut self.taken, [plant.ends.head.taken, plant.ends.modem.taken]);
         let (at, Some(answered)) = (CALLS.iter().position(|name| *name == fields[0]), number_of(answer)) else { return };
         match (at, answered) {
-            (Some(at), SHORT_FRAME) => self.short[at] += 1,
+            (Some(at), SHORT_FRAME) => {
+                self.short[at] += 1;
+                let length = unhex(fields[fields.len() - 1]).len();
+                named(&LENGTHS[..SHORT], length).into_iter().for_each(|named| self.short_by_length[at][named] += 1);
+            }
             (Some(at), 10) => self.of_des[at] += u64::from(is_of_des(at, &fields, plant)),
             (Some(at @ (2 | 3)), 13) => self.no_key[at - 2] += 1,
             (Some(1), 14) => self.no_key[2] += 1,
@@ -68,25 +80,31 @@ impl Frames {
     fn add_sealed(&mut self, at: usize, fields: &[&str], given: &[&str], plant: &Plant) {
         let (direction, address, said) = if at == 0 { (1, number(fields[1]), fields[2]) } else { (0, plant.ends.modem.address, fields[1]) };
         let (before, after) = (unhex(fields[fields.len() - 1]), unhex(given[2]));
-        self.sealed.insert((direction, after.clone()), before.clone());
-        self.last.insert([direction, address, number(said), number(given[1])], (before, after));
+        let of = [direction, address, number(said), number(given[1])];
+        self.sealed.insert((of, after.clone()), (before.clone(), sealing_key(of, plant)));
+        self.last.insert(of, (before, after));
     }
 
     fn add_opened(&mut self, fields: &[&str], opened: &[u8], before: [u64; 2], plant: &Plant) {
-        let (direction, octets) = (number(fields[1]), unhex(fields[6]));
-        let at = direction as usize;
+        let (of, octets) = ([1, 2, 3, 4].map(|at| number(fields[at])), unhex(fields[6]));
+        let at = of[0] as usize;
         if octets.len() == CLEAR {
             if octets != opened || before[at].saturating_add(1) != self.taken[at] {
                 fail(&format!("a frame of 12 octets was changed or not counted as taken: {fields:?}"));
             }
             self.twelve[at] += u64::from(before[at] < self.taken[at]);
         }
-        if let Some(plain) = self.sealed.get(&(direction, octets.clone())) {
-            let own = plain == opened;
-            self.all_own += u64::from(own);
-            self.others += u64::from(!own);
-            let named = LENGTHS[LENGTHS.len() - SEALED..].iter().position(|n| *n == octets.len());
-            named.filter(|_| own).into_iter().for_each(|length| self.own[at][length] += 1);
+        if let Some((plain, key)) = self.sealed.get(&(of, octets.clone())) {
+            match (*key == opening_key(of, plant), plain == opened) {
+                (true, true) => {
+                    self.all_own += 1;
+                    named(&LENGTHS[SHORT..], octets.len()).into_iter().for_each(|named| self.own[at][named] += 1);
+                }
+                (true, false) => fail(&format!("a frame was opened to other octets with the key that sealed it: {fields:?}")),
+                (false, false) => self.others += 1,
+                // nothing of 12 octets is sealed, and few more can come out the same by chance
+                (false, true) => {}
+            }
         }
         let crossed = octets.len() > CLEAR && plant.crossed.get(&octets).is_some_and(|plain| plain == opened);
         self.to_octets[at] += u64::from(crossed);
@@ -113,20 +131,22 @@ impl Frames {
 
     /// Prints the counts; one that is 0 is a failure. `lends`: slices were lent, some too short.
     pub fn told(&self, of: &str, lends: bool) {
-        let Frames { short, of_des, no_key, own, twelve, to_octets, to_keys, .. } = self;
+        let Frames { short, short_by_length, of_des, no_key, own, twelve, to_octets, to_keys, .. } = self;
         let narrow = format!(", output too short {:?}, for a frame below 12 {:?}", self.narrow, self.short_and_narrow);
         println!(
-            "outside: {of}, octets sealed down and up and opened up and down, 15: {short:?}, 10 for suite 256: {of_des:?}, 13 and 13: {:?}, 14: {}{}",
+            "outside: {of}, octets sealed down and up and opened up and down, 15: {short:?}, of {:?} octets {short_by_length:?}, 10 for suite 256: \
+             {of_des:?}, 13 and 13: {:?}, 14: {}{}",
+            &LENGTHS[..SHORT],
             &no_key[..2],
             no_key[2],
             if lends { narrow } else { String::new() }
         );
         println!(
-            "outside: {of}, opened to their own octets: {} ({} under another key of the number), of {:?} octets up {:?}, down {:?}; up and down: of 12 \
-             taken {twelve:?}, with a given key sealed {to_octets:?}, opened {to_keys:?}",
+            "outside: {of}, under the fields of their sealing opened with its key to their own octets: {} (with another key to others: {}), of {:?} \
+             octets up {:?}, down {:?}; up and down: of 12 taken {twelve:?}, with a given key sealed {to_octets:?}, opened {to_keys:?}",
             self.all_own,
             self.others,
-            &LENGTHS[LENGTHS.len() - SEALED..],
+            &LENGTHS[SHORT..],
             own[0],
             own[1]
         );
@@ -140,6 +160,7 @@ impl Frames {
             ("octets sealed with a given key and opened here", to_octets),
             ("octets sealed here and opened with a given key", to_keys),
         ];
+        all.extend(short_by_length.iter().map(|counts| ("15 for 0, 1 or 11 octets at one of the calls on octets", &counts[..])));
         if lends {
             all.extend([
                 ("an output shorter than its frame", &self.narrow[..]),
@@ -154,6 +175,28 @@ impl Frames {
 
 fn number(field: &str) -> u64 {
     field.parse().expect("a number")
+}
+
+/// The place of a length among those on purpose.
+fn named(lengths: &[usize], length: usize) -> Option<usize> {
+    lengths.iter().position(|n| *n == length)
+}
+
+/// The key that seals frames of this direction, address and SAID now; sealing changes no state.
+fn sealing_key(of: [u64; 4], plant: &Plant) -> Key {
+    let sealed = if of[0] == 1 { plant.ends.head.seal(of[1], of[2]) } else { plant.ends.modem.seal(of[2]) };
+    let (_, tek, vector) = sealed.expect("a key that has just sealed");
+    (tek, vector)
+}
+
+/// The key that opens frames of these fields now, at a copy of the end; an opening changes no more than the counts.
+fn opening_key([direction, address, said, number]: [u64; 4], plant: &Plant) -> Key {
+    let (mut head, mut modem, write_key) = (plant.ends.head.clone(), plant.ends.modem.clone(), [0; KEY]);
+    let opened = match direction {
+        0 => head.open(direction, address, said, number, &write_key),
+        _ => modem.open(direction, address, said, number, &write_key),
+    };
+    opened.expect("a key that has just opened")
 }
 
 /// Is the SAID of a call on octets known where it is made, under the address that it names, with suite 256?

@@ -19,6 +19,7 @@ use Rattle.key_traffic.specs.Sealing.{KeyOut, Sealed}
 use Rattle.key_traffic.specs.Addresses.{addressFits}
 use Rattle.cipher_aes.specs.Field.{Octets}
 use Rattle.cipher_aes.proofs.CipherLaws.{octets-take, octets-drop}
+use Rattle.cipher_aes.proofs.StepLaws.{octets-append}
 use Rattle.cipher_cbc.proofs.CbcLaws.{aes-opened}
 use Rattle.frame_octets.specs.Framed.{sealUnder, openUnder, givenIf, SealedFrame, openedOctets}
 use Rattle.key_association.specs.declared.record.Assoc.{Assoc}
@@ -49,10 +50,6 @@ use Rattle.demand_plant.proofs.HeadSteps.{fresh-ok}
 use Rattle.demand_plant.proofs.Theorem.{next, agrees, begins}
 
 -- ---- octets stay octets
-octets-append : (k l : List ℕ) → Octets k → Octets l → Octets (k ++ l)
-octets-append [] l p q = q
-octets-append (x ∷ k) l p q = (p .0, octets-append k l (p .1) q)
-
 octets-zeros : (n : ℕ) → Octets (replicate n 0)
 octets-zeros zero = tt
 octets-zeros (suc n) = (omega arith, octets-zeros n)

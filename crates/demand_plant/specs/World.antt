@@ -100,7 +100,7 @@ pub record Opening : Type 0 where
   pub out : KeyOut
   pub carried : Carried
 
--- What a step gave: document 01's number of its answer, the frame of an accepted sealing, the opening, and the messages that
+-- What a step gave: the number of its answer, the frame of an accepted sealing, the opening, and the messages that
 -- the head-end put out for this modem, each apart
 pub record Given : Type 0 where
   pub number : ℕ
