@@ -10,7 +10,7 @@ use Rattle.cipher_aes.specs.Sbox.{sub, subBytes}
 use Rattle.cipher_aes.specs.Cipher.{mixColumn, invMixColumn, shiftRows, columns, addRoundKey, round, finalRound}
 use Rattle.cipher_aes.specs.Words.{word, rotated, state}
 use Rattle.cipher_aes.specs.declared.words.State.{State}
-use Rattle.cipher_aes.proofs.XorLaws.{shr, low-digits}
+use Rattle.cipher_aes.proofs.XorLaws.{assoc, shr, low-digits}
 use Rattle.cipher_aes.proofs.ColumnLaws.{four}
 use Rattle.cipher_aes.proofs.StepLaws.{join}
 
@@ -65,15 +65,27 @@ pub sum5 : (a b c d k : ℕ) → word (bitXor (bitXor (bitXor (bitXor a b) c) d)
 sum5 a b c d k = word-xor _ k ∙ ap (λ (s : List ℕ). xors s (word k))
     (word-xor _ d ∙ ap (λ (s : List ℕ). xors s (word d)) (word-xor _ c ∙ ap (λ (s : List ℕ). xors s (word c)) (word-xor a b)))
 
+-- the parts of a column's last two octets, summed and moved three places on
+pub both-parts : (r s y : ℕ) (c d : ℕ)
+    → word r ≡ c ∷ c ∷ by3 c ∷ by2 c ∷ []
+    → word s ≡ by2 d ∷ d ∷ d ∷ by3 d ∷ []
+    → word y ≡ rotated (rotated (rotated (word (bitXor r s))))
+    → word y ≡ (c ⊕ d) ∷ (by3 c ⊕ d) ∷ (by2 c ⊕ by3 d) ∷ (c ⊕ by2 d) ∷ []
+unfolding xors
+both-parts r s y c d hr hs hy = hy ∙ ap (λ (t : List ℕ). rotated (rotated (rotated t))) (word-xor r s ∙ ap₂ xors hr hs)
+
 -- a column from the parts of its four octets
-pub column : (p q r s k : ℕ) (a b c d : ℕ)
+pub column : (p q y k : ℕ) (a b c d : ℕ)
     → word p ≡ by2 a ∷ a ∷ a ∷ by3 a ∷ []
     → word q ≡ by3 b ∷ by2 b ∷ b ∷ b ∷ []
-    → word r ≡ c ∷ by3 c ∷ by2 c ∷ c ∷ []
-    → word s ≡ d ∷ d ∷ by3 d ∷ by2 d ∷ []
-    → word (bitXor (bitXor (bitXor (bitXor p q) r) s) k) ≡ xors (mixColumn a b c d) (word k)
+    → word y ≡ (c ⊕ d) ∷ (by3 c ⊕ d) ∷ (by2 c ⊕ by3 d) ∷ (c ⊕ by2 d) ∷ []
+    → word (bitXor (bitXor (bitXor p q) y) k) ≡ xors (mixColumn a b c d) (word k)
 unfolding mixColumn xors
-column p q r s k a b c d hp hq hr hs = sum5 p q r s k ∙ simp (hp, hq, hr, hs)
+column p q y k a b c d hp hq hy =
+    word-xor _ k
+    ∙ ap (λ (s : List ℕ). xors s (word k))
+    (word-xor _ y ∙ ap₂ xors (word-xor p q ∙ ap₂ xors hp hq) hy
+    ∙ four (sym (assoc (by2 a ⊕ by3 b) c d)) (sym (assoc (a ⊕ by2 b) (by3 c) d)) (sym (assoc (a ⊕ b) (by2 c) (by3 d))) (sym (assoc (by3 a ⊕ b) c (by2 d))))
 
 -- a column of the last round
 pub plain : (p k : ℕ) (a b c d : ℕ) → word p ≡ a ∷ b ∷ c ∷ d ∷ [] → word (bitXor p k) ≡ xors (a ∷ b ∷ c ∷ d ∷ []) (word k)

@@ -13,7 +13,6 @@ use crate::sizes::TABLE_ENTRIES;
 use crate::words::State;
 use crate::words::key_at;
 use crate::words::rotated;
-use crate::words::rotated_2;
 use crate::words::rotated_3;
 use crate::words::word_of;
 
@@ -26,16 +25,14 @@ pub fn entry(t: &[u32; TABLE_ENTRIES], x: u32) -> u32
     t[x as usize]
 }
 
-// A column after a round: of the words that ShiftRows takes its octets from, and the round key's word (5.1.1 to 5.1.4).
+// A column after a round: of the words that ShiftRows takes its octets from, and the round key's word (5.1.1 to 5.1.4). The entries of `c` and `d` are
+// summed before they are rotated; three places twice are the two of `c`. The compiler makes fewer instructions of it than of three rotations apart.
 pub fn mixed(t: &[u32; TABLE_ENTRIES], a: u32, b: u32, c: u32, d: u32, k: u32) -> u32
     requires { ⌜ EncTable (now t) ⌝ }
     ensures { λ r. ⌜ word r ≡ xors (mixColumn (sub (a / 16777216 % 256)) (sub (b / 65536 % 256)) (sub (c / 256 % 256)) (sub (d % 256))) (word k) ⌝ }
 {
-    entry(t, a / 16777216 % 256)
-        ^ rotated(entry(t, b / 65536 % 256))
-        ^ rotated_2(entry(t, c / 256 % 256))
-        ^ rotated_3(entry(t, d % 256))
-        ^ k
+    let both = rotated_3(rotated_3(entry(t, c / 256 % 256)) ^ entry(t, d % 256));
+    entry(t, a / 16777216 % 256) ^ rotated(entry(t, b / 65536 % 256)) ^ both ^ k
 }
 
 // The S-box at an octet (5.1.1): the second octet of its entry.
@@ -103,18 +100,6 @@ pub fn encrypt(t: &[u32; TABLE_ENTRIES], w: &[u32; SCHEDULE_WORDS], s: State) ->
     ensures { λ r. ⌜ state r ≡ cipher (keyAt (now (w .entry))) (state s) ⌝ }
 {
     let mut x = add_round_key(key_at(w, 0), s);
-    for i in 0..MIXED_ROUNDS {
-        x = round(t, key_at(w, i + 1), x);
-    }
-    final_round(t, key_at(w, ROUNDS), x)
-}
-
-// The same for `v` added to `s`. A function with one caller is compiled into it: this one is for the loop that seals.
-pub fn encrypt_sum(t: &[u32; TABLE_ENTRIES], w: &[u32; SCHEDULE_WORDS], v: State, s: State) -> State
-    requires { ⌜ EncTable (now t) ⌝ }
-    ensures { λ r. ⌜ state r ≡ cipher (keyAt (now (w .entry))) (addRoundKey (state v) (state s)) ⌝ }
-{
-    let mut x = add_round_key(key_at(w, 0), add_round_key(v, s));
     for i in 0..MIXED_ROUNDS {
         x = round(t, key_at(w, i + 1), x);
     }

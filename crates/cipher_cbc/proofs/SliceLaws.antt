@@ -1,6 +1,6 @@
 -- Words and blocks in lists: read off, and stored.
 use mathlib.Core.Path.{_≡_, refl, sym, ap, ap₂, _∙_}
-use mathlib.Core.List.{List, [], _∷_, _++_, append-assoc}
+use mathlib.Core.List.{List, [], _∷_, _++_, append-nil}
 use Prim.Native.Nat.{ℕ, zero, suc, _+_, _-_, _*_, _<_, _≤_}
 use native.Mathlib.Nat.{zero-add}
 use native.Mathlib.Numerals.{add-one}
@@ -11,6 +11,9 @@ use lib.Seq.{drop-cons, take-add, take-all, drop-drop, getD-drop, sets, sets-eq,
 use Rattle.cipher_aes.specs.Words.{word, state}
 use Rattle.cipher_aes.specs.declared.words.State.{State}
 use Rattle.cipher_aes.specs.Field.{_⊕_, xors}
+use Rattle.cipher_cbc.specs.Cbc.{chainedBlocks}
+use Rattle.cipher_cbc.specs.Blocks.{sealBlocks, residual, blocksEnd}
+use Rattle.cipher_aes.proofs.XorLaws.{zero-l}
 use Rattle.cipher_aes.proofs.EquivalentLaws.{getD-xors}
 use Rattle.cipher_aes.proofs.ColumnLaws.{four}
 use Rattle.cipher_aes.proofs.StepLaws.{from, join, xor-length}
@@ -101,10 +104,20 @@ added-all d s b i j h e l =
     let k : i + j ≡ length s = omega arith in
     ap₂ (λ (x : List ℕ) (y : ℕ). take i d ++ x ++ drop y d) (take-all j (xors (drop i s) b) (omega arith)) k
 
--- a block stored over 16 zeros
-pub filled : (k : State) (b : List ℕ) → b ≡ sets (0 ∷ 0 ∷ 0 ∷ 0 ∷ 0 ∷ 0 ∷ 0 ∷ 0 ∷ 0 ∷ 0 ∷ 0 ∷ 0 ∷ 0 ∷ 0 ∷ 0 ∷ 0 ∷ []) 0 (state k) → b ≡ state k
-unfolding state word
-filled k b e = e
+abbrev pub zeros : List ℕ
+zeros = 0 ∷ 0 ∷ 0 ∷ 0 ∷ 0 ∷ 0 ∷ 0 ∷ 0 ∷ 0 ∷ 0 ∷ 0 ∷ 0 ∷ 0 ∷ 0 ∷ 0 ∷ 0 ∷ []
+
+zeros-added : (v : State) → xors zeros (state v) ≡ state v
+unfolding state word xors
+zeros-added v = simp zero-l
+
+-- a block of zeros sealed behind v is v encrypted
+pub zeros-sealed : (e : List ℕ → List ℕ) (v : State) (u b : List ℕ) → length b ≡ 16
+    → take (blocksEnd 0 zeros) b ++ residual e u (drop (blocksEnd 0 zeros) zeros) ≡ sealBlocks e (state v) zeros → b ≡ e (state v)
+unfolding xors chainedBlocks
+zeros-sealed e v u b h p =
+    sym (append-nil b) ∙ ap (λ (x : List ℕ). x ++ []) (sym (take-all 16 b (omega arith))) ∙ p ∙ append-nil (e (xors zeros (state v)))
+    ∙ ap e (zeros-added v)
 
 pub state-length : (k : State) → length (state k) ≡ 16
 unfolding state word

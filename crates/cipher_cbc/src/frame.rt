@@ -23,8 +23,8 @@ pub fn seal_frame(key: &[u8], vector: &[u8], frame: &[u8], out: &mut [u8])
 {
     let e = encryption_table();
     let k = load(key, 0);
-    let v = load(vector, 0);
     let w = expand(&e, k);
+    let v = load(vector, 0);
     seal_with(&e, &w, v, frame, out);
 }
 

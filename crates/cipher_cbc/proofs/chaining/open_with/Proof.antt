@@ -1,5 +1,5 @@
 -- `chaining::open_with` meets its contract: before each block `Left`, with what was written and what is left.
-use Rattle.cipher_cbc.proofs.BlockLaws.{front, Left, begins, next-block, ended, stopped, decrypted}
+use Rattle.cipher_cbc.proofs.BlockLaws.{Left, begins, next-block, ended, stopped, decrypted}
 use Rattle.cipher_cbc.proofs.SliceLaws.{state-length}
 use Rattle.cipher_cbc.specs.Cbc.{frame, openFrame}
 use Rattle.cipher_aes.specs.Words.{state, keyAt}
@@ -19,7 +19,8 @@ abbrev opened-block : List ℕ → List ℕ → List ℕ → List ℕ → List �
 opened-block w x u b = xors (eqInvCipher (keyAt w) (keyAt x) b) u
 
 abbrev Opening : List ℕ → List ℕ → List ℕ → List ℕ → List ℕ → List ℕ → ℕ → List ℕ → Type 0
-Opening w x v₀ s o₀ = Left (opened-block w x) (λ u b. b) (cipher (keyAt w)) v₀ s o₀
+Opening w x v₀ s o₀ =
+    Left (opened-block w x) (λ u b. b) (cipher (keyAt w)) s o₀ (frame (opened-block w x) (λ u b. b) (cipher (keyAt w)) v₀ s)
 
 abbrev Inv-loop : tie.InvT-loop
 Inv-loop e t i w x s out₀ v₀ at₀ out v at = Opening w x (state v₀) s out₀ (state v) at out
@@ -36,7 +37,7 @@ loop-holds c =
     let s = start .args .frame .now in
     let o = c .before .before .copy-clear .last .1 .0 in
     begins (opened-block (start .args .w .now) (start .args .x .now)) (λ u b. b) (cipher (keyAt (start .args .w .now))) (state (start .args .vector))
-    s o (search needs) (front s (start .args .out .now) o (search needs) (c .before .before .copy-clear .ensures))
+    s (start .args .out .now) o (search needs) (c .before .before .copy-clear .ensures)
 
 sub-loop : tie.Need-sub-loop Inv-loop μ-loop
 sub-loop c = search needs
@@ -78,16 +79,13 @@ loop-again c =
     decrypted (eqInvCipher (keyAt (start .args .w .now)) (keyAt (start .args .x .now))) _ _ _ _ (state (at-loop .loop .v))
     (at-add-round-key .add-round-key .ensures) (c .before .before .before .before .before .decrypt .ensures) (at-load .load .ensures) in
     next-block (opened-block (start .args .w .now) (start .args .x .now)) (λ u b. b) (cipher (keyAt (start .args .w .now)))
-    (state (start .args .vector)) s o (state (at-loop .loop .v)) (state (at-add-round-key .add-round-key .result)) (state (at-load .load .result))
+    s o _ (state (at-loop .loop .v)) (state (at-add-round-key .add-round-key .result)) (state (at-load .load .result))
     (at-loop .loop .at) (at-loop .loop .out) _
     (at-loop .loop .inv) (c .before .before .before .before .before .before .before .loop-test .taken) l p (at-load .load .ensures)
     (state-length (at-add-round-key .add-round-key .result)) (c .before .before .store .ensures)
 
-encrypt-requires : tie.Need-encrypt-requires Inv-loop μ-loop
-encrypt-requires c κs = search needs
-
 put-residual-requires : tie.Need-put-residual-requires Inv-loop μ-loop
-put-residual-requires c κs = search needs
+put-residual-requires c κs = (search needs, (search needs, (omega arith, search needs)))
 
 same-length : tie.Need-same-length Inv-loop μ-loop
 same-length c = search needs
@@ -95,16 +93,14 @@ same-length c = search needs
 returns : tie.Need-returns Inv-loop μ-loop
 unfolding openFrame
 returns c =
-    let start = c .before .before .before .before .before .before .before .before .before .before .before .before .before .before in
-    let at-copy-clear = c .before .before .before .before .before .before .before .before .before .before in
-    let at-loop = c .before .before .before .before .before .before .before in
-    let at-encrypt = c .before .before .before .before in
+    let start = c .before .before .before .before .before .before .before .before .before .before .before .before .before in
+    let at-copy-clear = c .before .before .before .before .before .before .before .before .before in
+    let at-loop = c .before .before .before .before .before .before in
     let o = at-copy-clear .copy-clear .last .1 .0 in
     let n : length (start .args .frame .now) - at-loop .loop .at < 16 = omega arith in
     ended (opened-block (start .args .w .now) (start .args .x .now)) (λ u b. b) (cipher (keyAt (start .args .w .now))) (state (start .args .vector))
-    (start .args .frame .now) o (start .args .out .now) (start .pre .1 .1 .1 .0) (at-copy-clear .copy-clear .ensures)
-    (state (at-loop .loop .v)) (state (at-encrypt .encrypt .result)) (at-loop .loop .at) (at-loop .loop .out) _ (at-loop .loop .inv) n
-    (at-encrypt .encrypt .ensures) (c .before .before .put-residual .ensures)
+    (start .args .frame .now) (start .args .out .now) o (start .pre .1 .1 .1 .0) (at-copy-clear .copy-clear .ensures)
+    (state (at-loop .loop .v)) (at-loop .loop .at) (at-loop .loop .out) _ (at-loop .loop .inv) n (c .before .before .put-residual .ensures)
 
 same-length-2 : tie.Need-same-length-2 Inv-loop μ-loop
 same-length-2 c = search needs
@@ -118,7 +114,7 @@ returns-2 c =
     let w : c .before .before .loop .at ≤ length (start .args .frame .now) = c .before .before .loop .inv .within in
     let n : c .before .before .loop .at ≡ length (start .args .frame .now) = omega arith in
     stopped (opened-block (start .args .w .now) (start .args .x .now)) (λ u b. b) (cipher (keyAt (start .args .w .now))) (state (start .args .vector))
-    (start .args .frame .now) o (start .args .out .now) (start .pre .1 .1 .1 .0) (at-copy-clear .copy-clear .ensures)
+    (start .args .frame .now) (start .args .out .now) o (start .pre .1 .1 .1 .0) (at-copy-clear .copy-clear .ensures)
     (state (c .before .before .loop .v)) (c .before .before .loop .at) (c .before .before .loop .out) (c .before .before .loop .inv) n
 
 pub open-with-spec : {M : Type 1} → statement M
@@ -137,7 +133,6 @@ open-with-spec =
     add-at
     loop-less
     loop-again
-    encrypt-requires
     put-residual-requires
     same-length
     returns

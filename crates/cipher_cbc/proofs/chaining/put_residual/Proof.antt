@@ -1,7 +1,7 @@
 -- `chaining::put_residual` meets its contract: the first j octets of the residual block are written.
-use Rattle.cipher_cbc.proofs.SliceLaws.{filled, state-length}
-use Rattle.cipher_aes.specs.Words.{state}
-use Rattle.cipher_cbc.proofs.SliceLaws.{added, added-all}
+use Rattle.cipher_cbc.proofs.SliceLaws.{zeros-sealed, added, added-all}
+use Rattle.cipher_aes.specs.Words.{state, keyAt}
+use Rattle.cipher_aes.specs.Cipher.{cipher}
 use Rattle.cipher_aes.specs.Field.{xors}
 use lib.Seq.{paste, paste-zero}
 use lib.ListN.{length, length-set, getD, take, drop, set}
@@ -15,24 +15,27 @@ use Rattle.cipher_cbc.proofs.chaining.put_residual.Statement.{statement
 use Rattle.cipher_cbc.proofs.chaining.put_residual.Tie as tie
 
 abbrev Inv-loop : tie.InvT-loop
-Inv-loop s at out₀ b n j₀ out j = (j ≤ n) × (length out ≡ length out₀) × (out ≡ paste out₀ at (xors (drop at s) b) j)
+Inv-loop e w s at out₀ b n j₀ out j = (j ≤ n) × (length out ≡ length out₀) × (out ≡ paste out₀ at (xors (drop at s) b) j)
 
 abbrev μ-loop : tie.MeasureT-loop
-μ-loop s at out₀ b n j₀ out j = n - j
+μ-loop e w s at out₀ b n j₀ out j = n - j
 
-slice-aggregate-store : tie.Need-slice-aggregate-store Inv-loop μ-loop
-slice-aggregate-store c = search needs
+slice-aggregate-seal-blocks : tie.Need-slice-aggregate-seal-blocks Inv-loop μ-loop
+slice-aggregate-seal-blocks c = search needs
 
-store-requires : tie.Need-store-requires Inv-loop μ-loop
-store-requires c κs = search needs
+slice-aggregate-seal-blocks-2 : tie.Need-slice-aggregate-seal-blocks-2 Inv-loop μ-loop
+slice-aggregate-seal-blocks-2 c = search needs
+
+seal-blocks-requires : tie.Need-seal-blocks-requires Inv-loop μ-loop
+seal-blocks-requires c κs = search needs
 
 sub-n : tie.Need-sub-n Inv-loop μ-loop
 sub-n c = search needs
 
 loop-holds : tie.Need-loop-holds Inv-loop μ-loop
 loop-holds c =
-    let start = c .before .before .before .before .before in
-    (omega arith, refl, paste-zero (start .args .out .now) (start .args .at) (xors (drop (start .args .at) (start .args .frame .now)) (c .before .store .last .0)))
+    let start = c .before .before .before .before .before .before in
+    (omega arith, refl, paste-zero (start .args .out .now) (start .args .at) (xors (drop (start .args .at) (start .args .frame .now)) (c .before .seal-blocks .last .1 .1 .1 .1 .1 .0)))
 
 add-out : tie.Need-add-out Inv-loop μ-loop
 add-out c = search needs
@@ -57,13 +60,12 @@ loop-less c = search needs
 
 loop-again : tie.Need-loop-again Inv-loop μ-loop
 loop-again c =
-    let start = c .before .before .before .before .before .before .before .before in
-    let at-store = c .before .before .before .before in
+    let start = c .before .before .before .before .before .before .before .before .before in
     let s = start .args .frame .now in
     let at = start .args .at in
     let j = c .before .before .loop .j in
-    let b = at-store .store .last .0 in
-    let l : length b ≡ 16 = ap length (filled (start .args .k) b (at-store .store .ensures)) ∙ state-length (start .args .k) in (
+    let b = c .before .before .before .before .seal-blocks .last .1 .1 .1 .1 .1 .0 in
+    let l : length b ≡ 16 = c .before .before .before .before .seal-blocks .kept .1 .1 .1 .1 .1 .0 in (
       omega arith,
       simp length-set (c .before .before .loop .inv .1),
       ap (λ (o : List ℕ). set o (at + j) (bitXor (getD s (at + j) 0) (getD b j 0))) (c .before .before .loop .inv .2)
@@ -75,13 +77,14 @@ same-length c = search needs
 
 returns : tie.Need-returns Inv-loop μ-loop
 returns c =
-    let start = c .before .before .before .before .before .before .before in
-    let at-store = c .before .before .before in
+    let start = c .before .before .before .before .before .before .before .before in
+    let at-seal-blocks = c .before .before .before in
     let s = start .args .frame .now in
     let at = start .args .at in
-    let b = at-store .store .last .0 in
-    let f : b ≡ state (start .args .k) = filled (start .args .k) b (at-store .store .ensures) in
-    let l : length b ≡ 16 = ap length f ∙ state-length (start .args .k) in
+    let b = at-seal-blocks .seal-blocks .last .1 .1 .1 .1 .1 .0 in
+    let l : length b ≡ 16 = at-seal-blocks .seal-blocks .kept .1 .1 .1 .1 .1 .0 in
+    let f : b ≡ cipher (keyAt (start .args .w .now)) (state (start .args .v)) =
+    zeros-sealed (cipher (keyAt (start .args .w .now))) (start .args .v) _ b l (at-seal-blocks .seal-blocks .ensures .0) in
     c .before .loop .inv .2
     ∙ added-all (start .args .out .now) s b at (c .before .loop .j) (omega arith) (omega arith) (omega arith)
     ∙ ap (λ (x : List ℕ). take at (start .args .out .now) ++ xors (drop at s) x ++ drop (length s) (start .args .out .now)) f
@@ -92,8 +95,9 @@ put-residual-spec =
     (tie.spec
     Inv-loop
     μ-loop
-    slice-aggregate-store
-    store-requires
+    slice-aggregate-seal-blocks
+    slice-aggregate-seal-blocks-2
+    seal-blocks-requires
     sub-n
     loop-holds
     add-out

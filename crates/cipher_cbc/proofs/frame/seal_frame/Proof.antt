@@ -14,11 +14,11 @@ encryption-table-requires c κs = search needs
 load-requires : tie.Need-load-requires
 load-requires c κs = search needs
 
-load-requires-2 : tie.Need-load-requires-2
-load-requires-2 c κs = search needs
-
 expand-requires : tie.Need-expand-requires
 expand-requires c κs = search needs
+
+load-requires-2 : tie.Need-load-requires-2
+load-requires-2 c κs = search needs
 
 seal-with-requires : tie.Need-seal-with-requires
 seal-with-requires c κs = search needs
@@ -30,8 +30,8 @@ returns : tie.Need-returns
 returns c =
     let start = c .before .before .before .before .before .before .before .before .before .before .before .before .before .before .before in
     let at-load = c .before .before .before .before .before .before .before .before .before in
-    let at-load2 = c .before .before .before .before .before .before .before .before in
-    let at-expand = c .before .before .before .before .before .before in
+    let at-load2 = c .before .before .before .before .before .before in
+    let at-expand = c .before .before .before .before .before .before .before in
     seal-loaded (start .args .key .now) (start .args .vector .now) (at-expand .expand .result) (at-load .load .result) (at-load2 .load2 .result)
     (start .pre .0) (start .pre .1 .0)
     (at-load .load .ensures) (at-load2 .load2 .ensures) (at-expand .expand .ensures) (start .args .frame .now) _ (drop (length (start .args .frame .now)) (start .args .out .now))
@@ -43,8 +43,8 @@ seal-frame-spec =
     (tie.spec
     encryption-table-requires
     load-requires
-    load-requires-2
     expand-requires
+    load-requires-2
     seal-with-requires
     same-length
     returns)
