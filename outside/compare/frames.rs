@@ -34,6 +34,9 @@ pub struct Frames {
     short_and_narrow: [u64; 4],
     /// By call and length on purpose: 15.
     short_by_length: [[u64; SHORT]; 4],
+    /// By call: 15 where question 10 would refuse too, for a SAID that is not known there and for suite 256.
+    before_unknown: [u64; 4],
+    before_of_des: [u64; 4],
     /// 13 at the head-end and at the modem, and 14.
     no_key: [u64; 3],
     /// Of what these calls sealed, under the fields that it was sealed with: opened with the key that sealed it to its own octets, by direction and
@@ -66,6 +69,9 @@ impl Frames {
                 self.short[at] += 1;
                 let length = unhex(fields[fields.len() - 1]).len();
                 named(&LENGTHS[..SHORT], length).into_iter().for_each(|named| self.short_by_length[at][named] += 1);
+                let (before_10, of_des) = (is_refused_with_10(&fields, plant), is_of_des(at, &fields, plant));
+                self.before_unknown[at] += u64::from(before_10 && !of_des);
+                self.before_of_des[at] += u64::from(before_10 && of_des);
             }
             (Some(at), 10) => self.of_des[at] += u64::from(is_of_des(at, &fields, plant)),
             (Some(at @ (2 | 3)), 13) => self.no_key[at - 2] += 1,
@@ -131,11 +137,11 @@ impl Frames {
 
     /// Prints the counts; one that is 0 is a failure. `lends`: slices were lent, some too short.
     pub fn told(&self, of: &str, lends: bool) {
-        let Frames { short, short_by_length, of_des, no_key, own, twelve, to_octets, to_keys, .. } = self;
+        let Frames { short, short_by_length, before_unknown, before_of_des, of_des, no_key, own, twelve, to_octets, to_keys, .. } = self;
         let narrow = format!(", output too short {:?}, for a frame below 12 {:?}", self.narrow, self.short_and_narrow);
         println!(
-            "outside: {of}, octets sealed down and up and opened up and down, 15: {short:?}, of {:?} octets {short_by_length:?}, 10 for suite 256: \
-             {of_des:?}, 13 and 13: {:?}, 14: {}{}",
+            "outside: {of}, octets sealed down and up and opened up and down, 15: {short:?}, of {:?} octets {short_by_length:?}, 15 before 10 \
+             for an unknown SAID: {before_unknown:?}, for suite 256: {before_of_des:?}, 10 for suite 256: {of_des:?}, 13 and 13: {:?}, 14: {}{}",
             &LENGTHS[..SHORT],
             &no_key[..2],
             no_key[2],
@@ -152,6 +158,8 @@ impl Frames {
         );
         let mut all = vec![
             ("15 at one of the calls on octets", &short[..]),
+            ("15 at one of them where 10 is due for an unknown SAID", before_unknown),
+            ("15 at one of them where 10 is due for suite 256", before_of_des),
             ("10 for suite 256 at one of them", of_des),
             ("13 or 14 of them", no_key),
             ("a length opened to its own octets upwards", &own[0]),
@@ -197,6 +205,13 @@ fn opening_key([direction, address, said, number]: [u64; 4], plant: &Plant) -> K
         _ => modem.open(direction, address, said, number, &write_key),
     };
     opened.expect("a key that has just opened")
+}
+
+/// Would question 10 refuse a call on octets? The outside end is asked at a copy, with 12 octets in the frame's place: a call refused with 15 changed nothing.
+fn is_refused_with_10(fields: &[&str], plant: &Plant) -> bool {
+    let (octets, mut ends) = ("00".repeat(CLEAR), plant.ends.clone());
+    let call = [&fields[..fields.len() - 1], &[&octets]].concat().join(",");
+    ends.call(call.as_bytes()).as_deref() == Some("10")
 }
 
 /// Is the SAID of a call on octets known where it is made, under the address that it names, with suite 256?

@@ -55,7 +55,13 @@ impl Plant {
             4 | 5 => number = self.r.below(17),
             6 | 7 => self.change(&mut octets),
             8 => octets = self.plain(),
-            9 => octets.truncate(self.r.pick(&[0, 1, CLEAR - 1])),
+            9 => {
+                octets.truncate(self.r.pick(&[0, 1, CLEAR - 1]));
+                // where 10 is due too, which comes after 15
+                if self.r.one_in(2) {
+                    said = self.said_for_10();
+                }
+            }
             _ => {}
         }
         let key = if up { self.invalid_key(address) } else { self.request_key() };
@@ -72,6 +78,12 @@ impl Plant {
         let entry = self.ends.head.entries.iter().find(|e| e.address == self.address)?;
         let all: Vec<u64> = entry.saids.iter().filter(|s| s.1 != AES).map(|s| s.0.into()).collect();
         (!all.is_empty()).then(|| self.r.pick(&all))
+    }
+
+    /// A SAID that question 10 refuses: of suite 256, or any of 14 bits, which is seldom known.
+    fn said_for_10(&mut self) -> u64 {
+        let of_des = if self.r.one_in(2) { self.said_of_des() } else { None };
+        of_des.unwrap_or_else(|| self.r.below(16_384))
     }
 
     /// An octet changed, the end cut off, or octets behind it.

@@ -1,12 +1,13 @@
 -- Frames sealed and opened in their octets (document 02, M-103): what either end asks of one, and what it gives.
 use mathlib.Core.Path.{_≡_}
-use mathlib.Core.Bool.{Bool}
+use mathlib.Core.Bool.{Bool, cond}
 use mathlib.Core.List.{List, []}
 use Prim.Native.Nat.{ℕ}
 use lib.Dec.{leb, eqb}
 use lib.ListN.{length}
 use Rattle.questions.specs.declared.refusal.Answer.{Answer}
 use Rattle.questions.specs.declared.refusal.Answer.the-variants.{Done, Refused}
+use Rattle.questions.specs.declared.refusal.Refusal.the-variants.{OutOfLimits, WrongLength, ShortFrame, UnknownSaid}
 use Rattle.key_traffic.specs.Octets.{overlay}
 use Rattle.key_traffic.specs.Sealing.{KeyOut, Sealed}
 use Rattle.key_traffic.specs.declared.sealing.SealedCall.{SealedCall}
@@ -19,6 +20,11 @@ frameLong frame = leb 12 frame
 -- A part of question 10: the cipher is that of suite 768 alone
 abbrev pub suiteSeals : ℕ → Bool
 suiteSeals suite = eqb suite 768
+
+-- The questions that either end asks first of a frame's octets, in their order, and the answer to those after them
+abbrev pub frameAsked : Bool → Bool → Bool → Bool → Answer → Answer
+frameAsked limits lengths long said later =
+    cond limits (cond lengths (cond long (cond said later (Refused UnknownSaid)) (Refused ShortFrame)) (Refused WrongLength)) (Refused OutOfLimits)
 
 -- A frame's octets sealed with a TEK and a vector, and opened with them
 abbrev pub sealUnder : KeyOut → List ℕ → List ℕ

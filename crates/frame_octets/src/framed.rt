@@ -2,17 +2,28 @@
 ghost use mathlib.Core.Path.{_≡_};
 ghost use mathlib.Core.Bool.{true};
 ghost use Prim.Native.Nat.{_≤_};
+ghost use lib.Dec.{leb};
 ghost use lib.ListN.{length};
 ghost use Rattle.key_traffic.specs.Frame.{opens};
 ghost use Rattle.key_traffic.specs.Octets.{overlay};
 ghost use Rattle.key_traffic.specs.Sealing.{keyOut, openedBy};
-ghost use Rattle.frame_octets.specs.Framed.{frameLong, suiteSeals, sealUnder, openUnder};
+ghost use Rattle.frame_octets.specs.Framed.{frameLong, suiteSeals, frameAsked, sealUnder, openUnder};
 use cipher_cbc::chaining::CLEAR_OCTETS;
 use cipher_cbc::frame::open_frame;
 use cipher_cbc::frame::seal_frame;
 use key_traffic::frame::Opening;
 use key_traffic::suites::SUITE_AES;
 use key_traffic::traffic::TrafficKey;
+use questions::refusal::Answer;
+use questions::refusal::Refusal;
+use questions::refusal::ask;
+
+// The part of question 2 that asks for the output: it holds the frame.
+pub fn output_holds(frame: usize, out: usize) -> bool
+    ensures { λ r. ⌜ r ≡ leb frame out ⌝ }
+{
+    frame <= out
+}
 
 // Question 15 of a frame's length.
 pub fn frame_long(frame: usize) -> bool
@@ -26,6 +37,16 @@ pub fn suite_seals(suite: u16) -> bool
     ensures { λ r. ⌜ r ≡ suiteSeals suite ⌝ }
 {
     suite == SUITE_AES
+}
+
+// Questions 1, 2, 15 and 10 in this order, and the answer to those after them where all are met.
+pub fn frame_answer(q1: bool, q2: bool, q15: bool, q10: bool, later: Answer) -> Answer
+    ensures { λ a. ⌜ a ≡ frameAsked q1 q2 q15 q10 later ⌝ }
+{
+    let a10 = ask(q10, Refusal::UnknownSaid, later);
+    let a15 = ask(q15, Refusal::ShortFrame, a10);
+    let a2 = ask(q2, Refusal::WrongLength, a15);
+    ask(q1, Refusal::OutOfLimits, a2)
 }
 
 // The sealed frame goes to the front of `out`; how many octets is handed back.

@@ -11,8 +11,10 @@ use crate::rules::counted;
 use crate::rules::frame_fits;
 use crate::rules::held_answer;
 use crate::rules::is_own;
+use frame_octets::framed::frame_answer;
 use frame_octets::framed::frame_long;
 use frame_octets::framed::open_by;
+use frame_octets::framed::output_holds;
 use frame_octets::framed::seal_under;
 use frame_octets::framed::suite_seals;
 use headend_state::entries::entry_of;
@@ -28,9 +30,7 @@ use message_rules::codes::INVALID_OCTETS;
 use questions::refusal::Answer;
 use questions::refusal::DONE;
 use questions::refusal::NO_KEY_FOR_FRAME;
-use questions::refusal::Refusal;
 use questions::refusal::answer_number;
-use questions::refusal::ask;
 use questions::refusal::is_done;
 
 // All questions of sealing; the last two are the lengths of the frame and of the lent slice.
@@ -49,12 +49,10 @@ fn seal_frame_answer(
     let record = s.held;
     let k = entry_of(h, address);
     let q1 = frame_fits(h, bad, len, s, address, said);
-    let q2 = (h.used <= len) & (frame <= lent);
+    let q2 = (h.used <= len) & output_holds(frame, lent);
+    let q15 = frame_long(frame);
     let q10 = is_own(k, said) & suite_seals(record.suite);
-    let a10 = ask(q10, Refusal::UnknownSaid, Answer::Done);
-    let a15 = ask(frame_long(frame), Refusal::ShortFrame, a10);
-    let a2 = ask(q2, Refusal::WrongLength, a15);
-    ask(q1, Refusal::OutOfLimits, a2)
+    frame_answer(q1, q2, q15, q10, Answer::Done)
 }
 
 // All questions of opening; `keys` says whether the message key has its length, and the last length is that of the slice for a TEK Invalid.
@@ -79,14 +77,11 @@ fn open_frame_answer(
     let newer = record.newer;
     let k = entry_of(h, address);
     let q1 = frame_fits(h, bad, len, s, address, said) & (direction == UP) & tek_in_range(number);
-    let q2 = keys & (h.used <= len) & (frame <= lent) & (INVALID_OCTETS <= invalid);
+    let q2 = keys & (h.used <= len) & output_holds(frame, lent) & (INVALID_OCTETS <= invalid);
     let q15 = frame_long(frame);
     let q10 = is_own(k, said) & suite_seals(record.suite);
     let a13 = held_answer(older, newer, number, h.clock);
-    let a10 = ask(q10, Refusal::UnknownSaid, a13);
-    let a15 = ask(q15, Refusal::ShortFrame, a10);
-    let a2 = ask(q2, Refusal::WrongLength, a15);
-    ask(q1, Refusal::OutOfLimits, a2)
+    frame_answer(q1, q2, q15, q10, a13)
 }
 
 // Sealing: the frame sealed with the older key goes to the front of the slice.

@@ -19,8 +19,10 @@ use crate::rules::can_open;
 use crate::rules::can_seal;
 use crate::rules::counted;
 use crate::rules::pair_opening;
+use frame_octets::framed::frame_answer;
 use frame_octets::framed::frame_long;
 use frame_octets::framed::open_by;
+use frame_octets::framed::output_holds;
 use frame_octets::framed::seal_under;
 use frame_octets::framed::suite_seals;
 use key_traffic::frame::DOWN;
@@ -48,12 +50,11 @@ fn seal_frame_answer(m: Modem, said: u16, t: Tek, frame: usize, lent: usize) -> 
 {
     let pair = t.pair;
     let q1 = modem_fits(m) & (said <= SAID_MAX);
+    let q2 = output_holds(frame, lent);
+    let q15 = frame_long(frame);
     let q10 = is_known(m, said) & suite_seals(t.suite);
     let a14 = ask(can_seal(m.clock, pair), Refusal::NoKeyToSeal, Answer::Done);
-    let a10 = ask(q10, Refusal::UnknownSaid, a14);
-    let a15 = ask(frame_long(frame), Refusal::ShortFrame, a10);
-    let a2 = ask(frame <= lent, Refusal::WrongLength, a15);
-    ask(q1, Refusal::OutOfLimits, a2)
+    frame_answer(q1, q2, q15, q10, a14)
 }
 
 // All questions of `open_frame`; `keys` says whether the message key has its length.
@@ -77,7 +78,7 @@ fn open_frame_answer(
         & (address < ADDRESS_BOUND)
         & (said <= SAID_MAX)
         & tek_in_range(number);
-    let q2 = keys & (frame <= lent) & (SENT_OCTETS <= messages);
+    let q2 = keys & output_holds(frame, lent) & (SENT_OCTETS <= messages);
     let q15 = frame_long(frame);
     let q10 = (address == m.address) & (is_known(m, said) & suite_seals(t.suite));
     let a13 = ask(
@@ -85,10 +86,7 @@ fn open_frame_answer(
         Refusal::NoKeyForFrame,
         Answer::Done,
     );
-    let a10 = ask(q10, Refusal::UnknownSaid, a13);
-    let a15 = ask(q15, Refusal::ShortFrame, a10);
-    let a2 = ask(q2, Refusal::WrongLength, a15);
-    ask(q1, Refusal::OutOfLimits, a2)
+    frame_answer(q1, q2, q15, q10, a13)
 }
 
 // The frame opened with the key of a machine that opens it; how many octets is handed back.

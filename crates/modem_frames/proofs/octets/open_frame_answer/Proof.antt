@@ -11,6 +11,12 @@ modem-fits-requires c κs = search needs
 tek-in-range-requires : tie.Need-tek-in-range-requires
 tek-in-range-requires c κs = search needs
 
+output-holds-requires : tie.Need-output-holds-requires
+output-holds-requires c κs = search needs
+
+frame-long-requires : tie.Need-frame-long-requires
+frame-long-requires c κs = search needs
+
 is-known-requires : tie.Need-is-known-requires
 is-known-requires c κs = search needs
 
@@ -23,24 +29,12 @@ can-open-requires c κs = search needs
 ask-requires : tie.Need-ask-requires
 ask-requires c κs = search needs
 
-ask-requires-2 : tie.Need-ask-requires-2
-ask-requires-2 c κs = search needs
-
-frame-long-requires : tie.Need-frame-long-requires
-frame-long-requires c κs = search needs
-
-ask-requires-3 : tie.Need-ask-requires-3
-ask-requires-3 c κs = search needs
-
-ask-requires-4 : tie.Need-ask-requires-4
-ask-requires-4 c κs = search needs
-
-ask-requires-5 : tie.Need-ask-requires-5
-ask-requires-5 c κs = search needs
+frame-answer-requires : tie.Need-frame-answer-requires
+frame-answer-requires c κs = search needs
 
 returns : tie.Need-returns
 unfolding openFrameAsked
-returns c = rw (c .ask5 .ensures, c .before .ask4 .ensures, c .before .before .ask3 .ensures, c .before .before .before .ask2 .ensures, c .before .before .before .before .ask .ensures, c .before .before .before .before .before .can-open .ensures, c .before .before .before .before .before .before .suite-seals .ensures, c .before .before .before .before .before .before .before .is-known .ensures, c .before .before .before .before .before .before .before .before .before .frame-long .ensures, c .before .before .before .before .before .before .before .before .before .before .tek-in-range .ensures, c .before .before .before .before .before .before .before .before .before .before .before .modem-fits .ensures) refl
+returns c = rw (c .frame-answer .ensures, c .before .ask .ensures, c .before .before .can-open .ensures, c .before .before .before .suite-seals .ensures, c .before .before .before .before .is-known .ensures, c .before .before .before .before .before .before .frame-long .ensures, c .before .before .before .before .before .before .before .output-holds .ensures, c .before .before .before .before .before .before .before .before .tek-in-range .ensures, c .before .before .before .before .before .before .before .before .before .modem-fits .ensures) refl
 
 pub open-frame-answer-spec : {M : Type 1} → statement M
 open-frame-answer-spec =
@@ -48,13 +42,11 @@ open-frame-answer-spec =
     (tie.spec
     modem-fits-requires
     tek-in-range-requires
+    output-holds-requires
     frame-long-requires
     is-known-requires
     suite-seals-requires
     can-open-requires
     ask-requires
-    ask-requires-2
-    ask-requires-3
-    ask-requires-4
-    ask-requires-5
+    frame-answer-requires
     returns)

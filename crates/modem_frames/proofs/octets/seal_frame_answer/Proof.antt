@@ -8,6 +8,12 @@ use Rattle.modem_frames.proofs.octets.seal_frame_answer.Tie as tie
 modem-fits-requires : tie.Need-modem-fits-requires
 modem-fits-requires c κs = search needs
 
+output-holds-requires : tie.Need-output-holds-requires
+output-holds-requires c κs = search needs
+
+frame-long-requires : tie.Need-frame-long-requires
+frame-long-requires c κs = search needs
+
 is-known-requires : tie.Need-is-known-requires
 is-known-requires c κs = search needs
 
@@ -20,37 +26,23 @@ can-seal-requires c κs = search needs
 ask-requires : tie.Need-ask-requires
 ask-requires c κs = search needs
 
-ask-requires-2 : tie.Need-ask-requires-2
-ask-requires-2 c κs = search needs
-
-frame-long-requires : tie.Need-frame-long-requires
-frame-long-requires c κs = search needs
-
-ask-requires-3 : tie.Need-ask-requires-3
-ask-requires-3 c κs = search needs
-
-ask-requires-4 : tie.Need-ask-requires-4
-ask-requires-4 c κs = search needs
-
-ask-requires-5 : tie.Need-ask-requires-5
-ask-requires-5 c κs = search needs
+frame-answer-requires : tie.Need-frame-answer-requires
+frame-answer-requires c κs = search needs
 
 returns : tie.Need-returns
 unfolding sealFrameAsked
-returns c = rw (c .ask5 .ensures, c .before .ask4 .ensures, c .before .before .ask3 .ensures, c .before .before .before .frame-long .ensures, c .before .before .before .before .ask2 .ensures, c .before .before .before .before .before .ask .ensures, c .before .before .before .before .before .before .can-seal .ensures, c .before .before .before .before .before .before .before .suite-seals .ensures, c .before .before .before .before .before .before .before .before .is-known .ensures, c .before .before .before .before .before .before .before .before .before .modem-fits .ensures) refl
+returns c = rw (c .frame-answer .ensures, c .before .ask .ensures, c .before .before .can-seal .ensures, c .before .before .before .suite-seals .ensures, c .before .before .before .before .is-known .ensures, c .before .before .before .before .before .frame-long .ensures, c .before .before .before .before .before .before .output-holds .ensures, c .before .before .before .before .before .before .before .modem-fits .ensures) refl
 
 pub seal-frame-answer-spec : {M : Type 1} → statement M
 seal-frame-answer-spec =
     tie.close
     (tie.spec
     modem-fits-requires
+    output-holds-requires
+    frame-long-requires
     is-known-requires
     suite-seals-requires
     can-seal-requires
     ask-requires
-    ask-requires-2
-    frame-long-requires
-    ask-requires-3
-    ask-requires-4
-    ask-requires-5
+    frame-answer-requires
     returns)
