@@ -1,13 +1,12 @@
 -- Words and the octets in them.
-use mathlib.Core.Path.{_≡_, refl, sym, ap, ap₂, _∙_}
-use mathlib.Core.List.{List, [], _∷_, _++_}
+use mathlib.Core.Path.{_≡_, sym, ap, ap₂, _∙_}
+use mathlib.Core.List.{List, [], _∷_}
 use Prim.Native.Nat.{ℕ, _+_, _*_, _/_, _%_, _<_, _^_}
 use native.Mathlib.Omega.{arith}
-use lib.ListN.{getD}
 use lib.Bits.{bitXor}
-use Rattle.cipher_aes.specs.Field.{_⊕_, xors, by2, by3, by9, by11, by13, by14}
+use Rattle.cipher_aes.specs.Field.{_⊕_, xors, by2, by3}
 use Rattle.cipher_aes.specs.Sbox.{sub, subBytes}
-use Rattle.cipher_aes.specs.Cipher.{mixColumn, invMixColumn, shiftRows, columns, addRoundKey, round, finalRound}
+use Rattle.cipher_aes.specs.Cipher.{mixColumn, shiftRows, columns, addRoundKey, round, finalRound}
 use Rattle.cipher_aes.specs.Words.{word, rotated, state}
 use Rattle.cipher_aes.specs.declared.words.State.{State}
 use Rattle.cipher_aes.proofs.XorLaws.{assoc, shr, low-digits}

@@ -1,12 +1,18 @@
 -- What the loop over a frame's blocks keeps, for sealing and opening alike.
 use mathlib.Core.Path.{_≡_, refl, sym, ap, ap₂, _∙_}
 use mathlib.Core.List.{List, [], _++_, append-assoc, append-nil}
-use Prim.Native.Nat.{ℕ, zero, suc, _+_, _-_, _*_, _/_, _<_, _≤_}
+use Prim.Native.Nat.{ℕ, suc, _+_, _-_, _/_, _<_, _≤_}
 use native.Mathlib.Omega.{arith}
 use lib.ListN.{length, take, drop, length-append, length-take, length-drop, take-append-drop, drop-of-length-le}
 use lib.Seq.{drop-drop, take-at, drop-at, length-take-le, sets, sets-eq, length-sets}
 use Rattle.cipher_aes.specs.Field.{xors}
+use Rattle.cipher_aes.specs.Cipher.{cipher}
+use Rattle.cipher_aes.specs.Words.{keyAt}
 use Rattle.cipher_cbc.specs.Cbc.{chainedBlocks, frame}
+
+-- what a block b behind u is sealed to, with the words w of a schedule
+abbrev pub sealed-block : List ℕ → List ℕ → List ℕ → List ℕ
+sealed-block w u b = cipher (keyAt w) (xors b u)
 
 -- what the calls of one pass of the loop make of a loaded block l
 pub encrypted : (e : List ℕ → List ℕ) (x y b l v : List ℕ) → x ≡ e y → y ≡ xors b v → b ≡ l → x ≡ e (xors l v)

@@ -1,13 +1,13 @@
 -- Words and blocks in lists: read off, and stored.
 use mathlib.Core.Path.{_≡_, refl, sym, ap, ap₂, _∙_}
 use mathlib.Core.List.{List, [], _∷_, _++_, append-nil}
-use Prim.Native.Nat.{ℕ, zero, suc, _+_, _-_, _*_, _<_, _≤_}
+use Prim.Native.Nat.{ℕ, zero, suc, _+_, _-_, _<_, _≤_}
 use native.Mathlib.Nat.{zero-add}
 use native.Mathlib.Numerals.{add-one}
 use native.Mathlib.Omega.{arith}
-use lib.ListN.{length, getD, take, drop, set, length-set, length-drop}
+use lib.ListN.{length, getD, take, drop, set, length-drop}
 use lib.Bits.{bitXor}
-use lib.Seq.{drop-cons, take-add, take-all, drop-drop, getD-drop, sets, sets-eq, length-sets, paste, paste-suc, length-paste}
+use lib.Seq.{drop-cons, take-add, take-all, drop-drop, getD-drop, sets, paste, paste-suc}
 use Rattle.cipher_aes.specs.Words.{word, state}
 use Rattle.cipher_aes.specs.declared.words.State.{State}
 use Rattle.cipher_aes.specs.Field.{_⊕_, xors}

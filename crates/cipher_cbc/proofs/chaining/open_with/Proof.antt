@@ -5,11 +5,11 @@ use Rattle.cipher_cbc.specs.Cbc.{frame, openFrame}
 use Rattle.cipher_aes.specs.Words.{state, keyAt}
 use Rattle.cipher_aes.specs.Cipher.{cipher, eqInvCipher}
 use Rattle.cipher_aes.specs.Field.{xors}
-use lib.ListN.{length, take, drop}
+use lib.ListN.{length}
 use native.Mathlib.Omega.{arith}
-use Prim.Native.Nat.{ℕ, _+_, _-_, _≤_, _<_}
-use mathlib.Core.List.{List, _++_}
-use mathlib.Core.Path.{_≡_, refl, sym, ap, ap₂, _∙_}
+use Prim.Native.Nat.{ℕ, _-_, _≤_, _<_}
+use mathlib.Core.List.{List}
+use mathlib.Core.Path.{_≡_}
 use borrow.Author.Needs.{needs}
 use Rattle.cipher_cbc.proofs.chaining.open_with.Statement.{statement}
 use Rattle.cipher_cbc.proofs.chaining.open_with.Tie as tie

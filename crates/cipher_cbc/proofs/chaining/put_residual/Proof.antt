@@ -7,9 +7,9 @@ use lib.Seq.{paste, paste-zero}
 use lib.ListN.{length, length-set, getD, take, drop, set}
 use lib.Bits.{bitXor}
 use native.Mathlib.Omega.{arith}
-use Prim.Native.Nat.{ℕ, _+_, _-_, _≤_, _<_}
+use Prim.Native.Nat.{ℕ, _+_, _-_, _≤_}
 use mathlib.Core.List.{List, _++_}
-use mathlib.Core.Path.{_≡_, refl, sym, ap, _∙_}
+use mathlib.Core.Path.{_≡_, refl, ap, _∙_}
 use borrow.Author.Needs.{needs}
 use Rattle.cipher_cbc.proofs.chaining.put_residual.Statement.{statement}
 use Rattle.cipher_cbc.proofs.chaining.put_residual.Tie as tie

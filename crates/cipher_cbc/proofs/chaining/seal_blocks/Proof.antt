@@ -1,22 +1,17 @@
 -- `chaining::seal_blocks` meets its contract: before each block `Left`, with what was written and what is left.
-use Rattle.cipher_cbc.proofs.BlockLaws.{Left, whole, next-block, left-short, encrypted}
+use Rattle.cipher_cbc.proofs.BlockLaws.{sealed-block, Left, next-block, left-short, encrypted}
 use Rattle.cipher_cbc.proofs.SliceLaws.{state-length}
 use Rattle.cipher_cbc.specs.Blocks.{sealBlocks, residual, blocksEnd}
 use Rattle.cipher_aes.specs.Words.{state, keyAt}
 use Rattle.cipher_aes.specs.Cipher.{cipher}
-use Rattle.cipher_aes.specs.Field.{xors}
 use lib.ListN.{length, take, drop}
 use native.Mathlib.Omega.{arith}
-use Prim.Native.Nat.{ℕ, _+_, _-_, _%_, _≤_, _<_}
+use Prim.Native.Nat.{ℕ, _-_, _%_, _≤_, _<_}
 use mathlib.Core.List.{List, _++_}
-use mathlib.Core.Path.{_≡_, refl, sym, ap, ap₂, _∙_}
+use mathlib.Core.Path.{_≡_, refl, sym, ap, _∙_}
 use borrow.Author.Needs.{needs}
 use Rattle.cipher_cbc.proofs.chaining.seal_blocks.Statement.{statement}
 use Rattle.cipher_cbc.proofs.chaining.seal_blocks.Tie as tie
-
--- what one pass of the loop writes, and hands on
-abbrev sealed-block : List ℕ → List ℕ → List ℕ → List ℕ
-sealed-block w u b = cipher (keyAt w) (xors b u)
 
 abbrev Sealing : List ℕ → List ℕ → List ℕ → ℕ → List ℕ → List ℕ → ℕ → List ℕ → Type 0
 Sealing w v₀ s i₀ o₀ =

@@ -1,22 +1,17 @@
 -- `chaining::seal_with` meets its contract: the addresses, the whole blocks, and what is left.
-use Rattle.cipher_cbc.proofs.BlockLaws.{Left, opening, short-left, ended, stopped}
+use Rattle.cipher_cbc.proofs.BlockLaws.{sealed-block, Left, opening, short-left, ended, stopped}
 use Rattle.cipher_cbc.specs.Blocks.{sealBlocks, residual, blocksEnd}
 use Rattle.cipher_cbc.specs.Cbc.{frame, sealFrame}
 use Rattle.cipher_aes.specs.Words.{state, keyAt}
 use Rattle.cipher_aes.specs.Cipher.{cipher}
-use Rattle.cipher_aes.specs.Field.{xors}
 use lib.ListN.{length, take, drop}
 use native.Mathlib.Omega.{arith}
-use Prim.Native.Nat.{ℕ, _+_, _-_, _%_, _≤_, _<_}
+use Prim.Native.Nat.{ℕ, _≤_}
 use mathlib.Core.List.{List, _++_}
-use mathlib.Core.Path.{_≡_, refl, sym, ap, ap₂, _∙_}
+use mathlib.Core.Path.{_≡_, _∙_}
 use borrow.Author.Needs.{needs}
 use Rattle.cipher_cbc.proofs.chaining.seal_with.Statement.{statement}
 use Rattle.cipher_cbc.proofs.chaining.seal_with.Tie as tie
-
--- what one pass over the blocks writes, and hands on
-abbrev sealed-block : List ℕ → List ℕ → List ℕ → List ℕ
-sealed-block w u b = cipher (keyAt w) (xors b u)
 
 -- the whole blocks are written: o₀ and o hold the output slice before and after, z what it held as it came
 sealed-blocks : (w v₀ s z o₀ v o : List ℕ) → 12 ≤ length s → o₀ ≡ take 12 s ++ drop 12 z → length o ≡ length o₀
