@@ -9,7 +9,7 @@ use Rattle.cipher_cbc.specs.Cbc.{chainedBlocks}
 abbrev pub sealBlocks : (List ℕ → List ℕ) → List ℕ → List ℕ → List ℕ
 sealBlocks e v p = chainedBlocks (λ u b. e (xors b u)) (λ u b. e (xors b u)) e (length p / 16) v p
 
--- 11.1: the octets p that are less than a block, behind the block v
+-- 11.1: octets p, less than a block, behind the block v: each is added to one of v encrypted, the first to the first
 abbrev pub residual : (List ℕ → List ℕ) → List ℕ → List ℕ → List ℕ
 residual e v p = xors p (e v)
 

@@ -21,7 +21,8 @@ frameLong frame = leb 12 frame
 abbrev pub suiteSeals : ℕ → Bool
 suiteSeals suite = eqb suite 768
 
--- The questions that either end asks first of a frame's octets, in their order, and the answer to those after them
+-- What either end asks first of a frame's octets: limits (1), lengths (2), 12 octets (15), the SAID (10). The first that is not met refuses; where all are,
+-- the answer is that to the questions after them
 abbrev pub frameAsked : Bool → Bool → Bool → Bool → Answer → Answer
 frameAsked limits lengths long said later =
     cond limits (cond lengths (cond long (cond said later (Refused UnknownSaid)) (Refused ShortFrame)) (Refused WrongLength)) (Refused OutOfLimits)
