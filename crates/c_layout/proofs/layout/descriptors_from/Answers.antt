@@ -1,0 +1,16 @@
+-- `c_layout::layout::descriptors_from` meets its contract.
+use Rattle.c_layout.specs.Layout.{descriptors_from_of}
+use Rattle.c_layout.proofs.layout.descriptors_from.Goals as goal
+
+pub returns : goal.returns
+unfolding descriptors_from_of
+returns c = simp (
+      c.descriptor_from-d.ensures,
+      c.part-4.ensures,
+      c.descriptor_from-c.ensures,
+      c.part-3.ensures,
+      c.descriptor_from-b.ensures,
+      c.part-2.ensures,
+      c.descriptor_from-a.ensures,
+      c.part.ensures,
+    )

@@ -1,0 +1,9 @@
+-- `c_layout::layout::put_descriptor` meets its contract.
+use Rattle.message_rules.specs.Attributes.{two}
+use Rattle.c_layout.specs.Layout.{descriptor_laid}
+use native.Mathlib.Omega.{arith}
+use Rattle.c_layout.proofs.layout.put_descriptor.Goals as goal
+
+pub returns : goal.returns
+unfolding descriptor_laid two
+returns c = record { put = c.put_octets.ensures; value = omega arith }

@@ -1,0 +1,20 @@
+-- `c_layout::layout::put_descriptors` meets its contract.
+use Rattle.c_layout.proofs.LayoutLaws.{laid_four}
+use Rattle.key_traffic.proofs.StoreLaws.{then_put, put_as}
+use lib.ListN.{length}
+use mathlib.Core.Path.{◌≡◌}
+use native.Mathlib.Omega.{arith}
+use borrow.Author.Rules.{rules}
+use Rattle.c_layout.proofs.layout.put_descriptors.Goals as goal
+
+pub returns : goal.returns
+returns c = let third = c in
+    let second = third.before in
+    let first = second.before in
+    let start = first.before in
+    let ds = start.args.ds in
+    let s : length ds ≡ 4 = search (rules, start.well-formed, start.ranges) in (
+      put_as (laid_four ds s) (then_put first.put_descriptor-a.ensures.put (then_put second.put_descriptor-b.ensures.put
+          (then_put third.put_descriptor-c.ensures.put c.put_descriptor.ensures.put))),
+      omega arith,
+    )

@@ -1,0 +1,9 @@
+-- `decryption::inv_shifted` meets its contract: four octets and the key.
+use mathlib.Core.Path.{◌∙◌}
+use Rattle.cipher_aes.proofs.ColumnLaws.{four}
+use Rattle.cipher_aes.proofs.WordLaws.{plain}
+use Rattle.cipher_aes.proofs.decryption.inv_shifted.Goals as goal
+
+pub returns : goal.returns
+returns c = plain _ _ _ _ _ _
+    (c.word_of.ensures ∙ four c.inv_sub_of-p.ensures.0 c.inv_sub_of-q.ensures.0 c.inv_sub_of-r.ensures.0 c.inv_sub_of-s.ensures.0)

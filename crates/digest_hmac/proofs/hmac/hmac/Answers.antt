@@ -1,0 +1,15 @@
+-- `hmac::hmac` meets its contract: by the test of the key's length.
+use native.Mathlib.Omega.{arith}
+use borrow.Author.Tests.{le-leb, lt-leb}
+use lib.ListN.{length}
+use Rattle.digest_hmac.specs.Hmac.{hmac, used_key}
+use Rattle.digest_hmac.proofs.hmac.hmac.Goals as goal
+
+pub returns-then-key-le-BLOCK_OCTETS : goal.returns-then-key-le-BLOCK_OCTETS
+unfolding hmac used_key
+returns-then-key-le-BLOCK_OCTETS c = rw (le-leb (length c.args.key.now) 64 (omega arith)) c.block_hmac.ensures
+
+pub returns : goal.returns
+unfolding hmac used_key
+returns c = rw (lt-leb (length c.args.key.now) 64 (omega arith))
+    (simp (c.octets-k.ensures, c.sha1.ensures) at c.block_hmac-2.ensures)

@@ -1,0 +1,12 @@
+-- `headend_steps::receive::put_answer` meets its contract.
+use borrow.Author.Tests.{eq-eqb, ne_eqb}
+use Rattle.headend_steps.proofs.PutLaws.{none_put, answer_put}
+use Rattle.headend_steps.proofs.receive.put_answer.Goals as goal
+
+pub returns-then-f-eq-CODE_NONE : goal.returns-then-f-eq-CODE_NONE
+returns-then-f-eq-CODE_NONE c = let x = c.args in
+    none_put x.f x.auth.now x.write-key.now x.out.now (eq-eqb _ _ c.if-f-eq-CODE_NONE.true)
+
+pub returns : goal.returns
+returns c = let x = c.args in
+    answer_put x.f x.auth.now x.write-key.now x.out.now c.requires (ne_eqb _ _ c.if-f-eq-CODE_NONE.false) c.write-w.result _ c.write-w.ensures.0 c.write-w.ensures.1

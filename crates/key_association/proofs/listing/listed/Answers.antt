@@ -1,0 +1,7 @@
+-- `key_association::listing::listed` meets its contract.
+use Rattle.key_association.specs.Listing.{fresh_of}
+use Rattle.key_association.proofs.listing.listed.Goals as goal
+
+pub returns : goal.returns
+unfolding fresh_of
+returns c = simp (c.mint-second.ensures, c.mint-first.ensures, c.width-w.ensures.0)

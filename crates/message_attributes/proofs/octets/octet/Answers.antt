@@ -1,0 +1,7 @@
+-- `message_attributes::octets::octet` meets its contract.
+use lib.ListN.{get_or-eq_default}
+use mathlib.Core.Path.{sym}
+use Rattle.message_attributes.proofs.octets.octet.Goals as goal
+
+pub returns-else-at-s : goal.returns-else-at-s
+returns-else-at-s c = sym (get_or-eq_default c.args.s.now 0 c.if-at-s.false)

@@ -1,0 +1,16 @@
+-- `message_compounds::compound::pair_in` meets its contract.
+use Rattle.message_compounds.specs.Compounds.{pair_of, inside_at_of}
+use Rattle.message_compounds.proofs.compound.pair_in.Goals as goal
+
+)
+
+pub returns : goal.returns
+unfolding pair_of inside_at_of
+returns c = rw (
+  c.no_descriptors.ensures,
+  c.is_in_order.ensures,
+  c.is_rest_sound.ensures,
+  c.params_in-o.ensures,
+  c.part.ensures,
+  c.params_in-n.ensures,
+  c.part-2.ensures,

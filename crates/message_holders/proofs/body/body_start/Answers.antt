@@ -1,0 +1,6 @@
+-- `message_holders::body::body_start` meets its contract.
+use mathlib.Core.Path.{refl}
+use Rattle.message_holders.proofs.body.body_start.Goals as goal
+
+pub returns : goal.returns
+returns c = (rw c.no_slot-none.ensures refl, refl)

@@ -1,0 +1,12 @@
+-- `modem_tek::parts::counter_after` meets its contract.
+use Rattle.modem_tek.specs.TekParts.{counter_after_of}
+use mathlib.Core.Path.{sym, ◌∙◌}
+use Rattle.modem_tek.proofs.parts.counter_after.Goals as goal
+
+pub returns-then-is_new : goal.returns-then-is_new
+unfolding counter_after_of
+returns-then-is_new c = simp (sym c.is_new.ensures ∙ c.if-is_new.true) c.next_identifier.ensures
+
+pub returns : goal.returns
+unfolding counter_after_of
+returns c = simp (sym c.is_new.ensures ∙ c.if-is_new.false)

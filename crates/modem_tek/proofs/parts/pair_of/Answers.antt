@@ -1,0 +1,6 @@
+-- `modem_tek::parts::pair_of` meets its contract.
+use mathlib.Core.Path.{refl}
+use Rattle.modem_tek.proofs.parts.pair_of.Goals as goal
+
+pub returns : goal.returns
+returns c = simp (c.key_of-first.ensures, c.key_of-second.ensures) refl

@@ -1,0 +1,12 @@
+-- `replay::lines::put_limits` meets its contract.
+use mathlib.Core.Path.{refl}
+use native.Mathlib.Omega.{arith}
+use lib.ListN.{length-set}
+use Rattle.replay.proofs.LineLaws.{two_put}
+use Rattle.replay.proofs.lines.put_limits.Goals as goal
+
+pub bounds-out-1 : goal.bounds-out-1
+bounds-out-1 c = let h = length-set c.args.out.now 0 49 in omega (arith, h, c.requires)
+
+pub returns : goal.returns
+returns c = (refl, two_put 49 10 c.args.out.now c.requires)

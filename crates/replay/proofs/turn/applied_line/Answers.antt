@@ -1,0 +1,16 @@
+-- `replay::turn::applied_line` meets its contract.
+use native.Mathlib.Omega.{arith}
+use Rattle.replay.proofs.TurnLaws.{given_fits, step_answered}
+use Rattle.replay.proofs.turn.applied_line.Goals as goal
+
+pub put_given-n-requires : goal.put_given-n-requires
+put_given-n-requires c = let a = c.args in
+    let r = c.apply-a in
+    let pre = c.requires in
+    given_fits a.e a.c a.octets.now a.auth.now a.read.now a.write.now a.frame.now r.result _ _ _ _ r.ensures.0 r.ensures.1 r.ensures.2 r.ensures.3 r.ensures.4 _ c.tek-2-1.given c.vector-2-1.given c.sent-2-1.given (omega (arith, c.frame-1.given, pre.0)) pre.1
+
+pub returns : goal.returns
+returns c = let a = c.args in
+    let r = c.apply-a in
+    let put = c.put_given-n.ensures in
+    (step_answered a.e a.c a.octets.now a.auth.now a.read.now a.write.now a.frame.now r.result _ _ _ _ r.ensures.0 r.ensures.1 r.ensures.2 r.ensures.3 r.ensures.4 _ _ _ _ put.0, put.1)

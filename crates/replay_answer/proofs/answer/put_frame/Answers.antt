@@ -1,0 +1,14 @@
+-- `put_frame` meets its contract.
+use native.Mathlib.Omega.{arith}
+use borrow.Author.Tests.{not-true, not-false}
+use Rattle.replay_answer.specs.Answer.{comma_hex}
+use Rattle.replay_answer.proofs.AnswerLaws.{if_off, if_on}
+use Rattle.replay_answer.proofs.answer.put_frame.Goals as goal
+
+pub returns-then-not-on : goal.returns-then-not-on
+returns-then-not-on c = let a = c.args in
+    (if_off a.out.now a.at (comma_hex a.frame.now) a.on (not-true _ c.if-not-on.true), omega arith)
+
+pub returns : goal.returns
+returns c = let put-comma-hex = c.put_comma_hex in
+    (if_on c.args.on (not-false _ c.if-not-on.false) put-comma-hex.ensures.0, omega (arith, put-comma-hex.ensures.1))

@@ -1,0 +1,22 @@
+-- `put_number` meets its contract: the digits are stored, and then the octet after them.
+use mathlib.Core.Path.{ap, ◌∙◌}
+use mathlib.Core.List.{List}
+use Prim.Native.Nat.{ℕ, ◌+◌}
+use native.Mathlib.Omega.{arith}
+use lib.ListN.{length, set}
+use Rattle.text.specs.Decimal.{decimal_of}
+use Rattle.replay_answer.proofs.AnswerLaws.{put-number, length_number}
+use Rattle.replay_answer.proofs.answer.put_number.Goals as goal
+
+pub returns : goal.returns
+returns c = let a = c.args in
+    let d = c.put_decimal-end in (
+      record {
+        after = omega (arith, length_number a.n a.after, d.ensures.1.0);
+        stored =
+            ap (λ (k : ℕ). set d.new.0 k a.after) d.ensures.1.0
+            ∙ ap (λ (l : List ℕ). set l (a.at + length (decimal_of a.n)) a.after) d.ensures.0
+            ∙ put-number a.out.now a.at a.n a.after;
+      },
+      omega arith,
+    )

@@ -1,0 +1,21 @@
+-- `put_seal` meets its contract.
+use mathlib.Core.List.{◌∷◌, ◌++◌}
+use native.Mathlib.Omega.{arith}
+use lib.Dec.{eqb}
+use borrow.Author.Tests.{eq-eqb, ne_eqb}
+use Rattle.key_traffic.proofs.StoreLaws.{then_put}
+use Rattle.text.specs.Decimal.{decimal_of}
+use Rattle.replay_answer.specs.Answer.{keys_text}
+use Rattle.replay_answer.proofs.AnswerLaws.{if_off, if_on, decimal_put}
+use Rattle.replay_answer.proofs.answer.put_seal.Goals as goal
+
+pub returns-then-number-ne-DONE : goal.returns-then-number-ne-DONE
+returns-then-number-ne-DONE c = let a = c.args in
+    (if_off a.out.now a.at ((44 ∷ decimal_of a.key) ++ keys_text a.tek.now a.vector.now) (eqb a.number 0) (ne_eqb a.number 0 c.if-number-ne-DONE.true), omega arith)
+
+pub returns : goal.returns
+returns c = let a = c.args in
+    let put-octet = c.put_octet-a in
+    let put-decimal = c.put_decimal-b in
+    let put-keys = c.put_keys in
+    (if_on (eqb a.number 0) (eq-eqb a.number 0 c.if-number-ne-DONE.false) (then_put (then_put put-octet.ensures.0 (decimal_put _ _ a.key _ _ put-decimal.ensures.0 put-decimal.ensures.1.0)) put-keys.ensures.0), omega (arith, put-octet.ensures.1, put-decimal.ensures.1.1, put-keys.ensures.1))
