@@ -3,7 +3,7 @@
 import json,os,re,sys,glob
 TOP=sys.argv[1]
 WORD=re.compile(r"[^\s(){}\[\].;,:\"]+")
-norm=lambda s:s.replace('_','-')
+norm=lambda s:s.replace('_','-').lower()
 TRIV={'search rules','omega arith','search (rules, arith)','tt'}
 def split_top(t):
     out=[];depth=0;cur=''
@@ -32,6 +32,18 @@ def cur_is_sig_for(cur,line):
     m2=re.match(r"(\S+)",line)
     return bool(m and m2 and m.group(1)==m2.group(1))
 report=[]
+def mutparams(callee,cache={}):
+    if callee in cache: return cache[callee]
+    r=None
+    parts=callee.split('::')
+    for f in glob.glob(f'{TOP}/crates/{parts[0]}/src/**/*.rt',recursive=True):
+        m=re.search(r"\bfn "+re.escape(parts[-1])+r"(?:<[^(]*>)?\(([^{]*?)\)\s*(?:->|\n|requires|ensures|\{)",open(f).read())
+        if m:
+            ps=split_top(m.group(1).replace('<','[').replace('>',']'))
+            r=[q.split(':')[0].strip().replace('&mut ','') for q in ps if '&mut' in q]
+            break
+    cache[callee]=r
+    return r
 def convert(crate,path,d):
     text=open(path).read()
     if 'tie.close' not in text: return 'walk'
@@ -99,12 +111,31 @@ def convert(crate,path,d):
                     return a+'.'+'.'.join([ns,nf]+parts[L:])
             if st in steps:
                 new=steps[st][0][0]
+                if len(parts)>2 and parts[1]=='new' and parts[2].isdigit() and steps[st][0][2]:
+                    mp=mutparams(steps[st][0][2][3] or '')
+                    if mp and int(parts[2])<len(mp): parts[2]=mp[int(parts[2])]
                 if len(parts)>2 and parts[1]=='ensures' and parts[2].isdigit() and st in clausef:
                     k=int(parts[2])
                     if k<len(clausef[st]): parts[2]=clausef[st][k]
                 return a+'.'+'.'.join([new]+parts[1:])
             return m.group(0)
         body=re.sub(r"(?<![\w.'-])([^\s(){}\[\].;,:\"]+)((?:\.[^\s(){}\[\].;,:\"]+)+)",sub,body)
+        # names bound to a part of c: its arguments, a call
+        for m in list(re.finditer(r"let (\S+) = (\S+)\.args in",body)):
+            if m.group(2) in al:
+                for o,n in argren.items():
+                    body=re.sub(r"(?<![\w.'-])"+re.escape(m.group(1))+r"\."+re.escape(o)+r"(?![\w'-])",m.group(1)+'.'+n,body)
+        for m in list(re.finditer(r"let (\S+) = (\S+?)\.([^\s.]+) in",body)):
+            if m.group(2) in al:
+                for st,ls in steps.items():
+                    if ls[0][0]==m.group(3):
+                        x=m.group(1)
+                        if st in clausef:
+                            body=re.sub(r"(?<![\w.'-])"+re.escape(x)+r"\.ensures\.(\d)",lambda q: x+'.ensures.'+(clausef[st][int(q.group(1))] if int(q.group(1))<len(clausef[st]) else q.group(1)),body)
+                        mp=ls[0][2] and mutparams(ls[0][2][3] or '')
+                        if mp:
+                            body=re.sub(r"(?<![\w.'-])"+re.escape(x)+r"\.new\.(\d)",lambda q: x+'.new.'+(mp[int(q.group(1))] if int(q.group(1))<len(mp) else q.group(1)),body)
+        body=re.sub(r"\n(?=[^\s])","\n    ",body)
         return body
     blocks=decls(text)
     uses=[];helpers=[];answers=[];invs=[];head=''
@@ -162,15 +193,26 @@ def convert(crate,path,d):
             body=fixpaths(body)
             asked=(v.get('asked') or {}).get(new)
             if asked:
-                bb=body.strip()
+                bb=body.strip(); lead=''
+                mm3=re.match(r"(.*?\bin)\s*(\(.*\))\s*$",bb,re.S)
+                if not bb.startswith('(') and mm3:
+                    for q in re.finditer(r"\bin\s*(?=\()",bb):
+                        tail=bb[q.end():]
+                        dep=0; ok=True
+                        for j,ch in enumerate(tail):
+                            if ch in '([{': dep+=1
+                            if ch in ')]}':
+                                dep-=1
+                                if dep==0 and j<len(tail)-1: ok=False; break
+                        if ok and tail.endswith(')'): lead=bb[:q.end()]; bb=tail; break
                 if bb.startswith('(') and bb.endswith(')'):
                     xs=split_top(bb[1:-1])
                     if len(xs)==len(asked):
-                        body='record { '+'; '.join(f"{f} = {x}" for f,x in zip(asked,xs))+' }'
+                        body=lead+' record { '+'; '.join(f"{f} = {x}" for f,x in zip(asked,xs))+' }'
                     elif len(xs)==len(asked)+1 and xs[-1]=='tt':
-                        body='record { '+'; '.join(f"{f} = {x}" for f,x in zip(asked,xs))+' }'
+                        body=lead+' record { '+'; '.join(f"{f} = {x}" for f,x in zip(asked,xs))+' }'
                     else: report.append((path,f'asked {asked} {len(xs)}'))
-                elif bb in TRIV: continue
+                elif bb in TRIV and not lead: continue
                 else: report.append((path,f'asked {asked} one'))
             answers.append((comment+'\n' if comment else '')+f"pub {new} : goal.{new}\n"+''.join(u+'\n' for u in unf)+f"{new} c = {body}")
             continue

@@ -22,7 +22,7 @@ record Handed (text : List ℕ) (cursor : Cursor) (octets : ℕ) : Type 0 where
   short : length text ≤ 84000000004096
 
 first : (s : List ℕ) (cursor : Cursor) (count : ℕ) → cursor ≡ (start_of s).cursor → count ≡ length (start_of s).written → count ≤ 4096 → Handed (output_of s) cursor count
-first s cursor count same long few =
+    first s cursor count same long few =
     let all = sym (length-append (start_of s).written (rest_of (start_of s).cursor)) ∙ ap length (after_start s) in
     let rest = ap (λ (k : Cursor). length (rest_of k)) same in
     record {
@@ -44,7 +44,7 @@ module _ (text : List ℕ) (c next : Cursor) (octets count : ℕ) (h : Handed te
 -- where every slice went out, none is left
 last : (text : List ℕ) (c : Cursor) (octets : ℕ) (written : Bool) → Handed text c octets → (written && leb 1 c.left) ≡ false
     → written ≡ true → octets ≡ length text
-last text c octets written h over out =
+    last text c octets written h over out =
     let over-left : (true && leb 1 c.left) ≡ false = rw out at over in
     omega (arith, h.counted, ap length (none_left c (none c.left over-left)))
   where
@@ -53,11 +53,11 @@ last text c octets written h over out =
     none (suc n) e = let some : leb 1 (suc n) ≡ true = le-leb 1 (suc n) (omega arith) in let z : ◌≡◌ {A = ℕ} 0 1 = cc in absurd (omega arith)
 
 left-some : {n : ℕ} (c : Cursor) (written : Bool) → (written && leb n c.left) ≡ true → n ≤ c.left
-left-some {n} c written taken = leb-true n c.left (both written (leb n c.left) taken).1
+    left-some {n} c written taken = leb-true n c.left (both written (leb n c.left) taken).1
 
 pub loop-is_written-init : goal.loop-is_written-init
 loop-is_written-init c = let w = c.write_start-first in
-    first c.args.input.now w.result.cursor w.result.count w.ensures.0.0 w.ensures.0.1 w.ensures.1
+    first c.args.input.now w.result.cursor w.result.count w.ensures.cursor_value.0 w.ensures.cursor_value.1 w.ensures.count_bound
 
 pub write_more-turn-requires : goal.write_more-turn-requires
 write_more-turn-requires c = let l = c.loop-is_written in

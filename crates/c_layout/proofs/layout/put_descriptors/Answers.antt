@@ -13,8 +13,5 @@ returns c = let third = c in
     let first = second.before in
     let start = first.before in
     let ds = start.args.ds in
-    let s : length ds ≡ 4 = search (rules, start.well-formed, start.ranges) in (
-      put_as (laid_four ds s) (then_put first.put_descriptor-a.ensures.put (then_put second.put_descriptor-b.ensures.put
-          (then_put third.put_descriptor-c.ensures.put c.put_descriptor.ensures.put))),
-      omega arith,
-    )
+    let s : length ds ≡ 4 = search (rules, start.well-formed, start.ranges) in  record { put = put_as (laid_four ds s) (then_put first.put_descriptor-a.ensures.put (then_put second.put_descriptor-b.ensures.put
+          (then_put third.put_descriptor-c.ensures.put c.put_descriptor.ensures.put))); value = omega arith }

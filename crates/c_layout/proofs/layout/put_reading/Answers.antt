@@ -10,4 +10,4 @@ use Rattle.c_layout.proofs.layout.put_reading.Goals as goal
 pub returns : goal.returns
 unfolding reading_octets
 returns c = let last = put_as (ap (λ (n : ℕ). n ∷ []) c.holds_octet.ensures) c.put_octets.ensures in
-    (then_put c.put_fields-a.ensures.put (then_put c.put_place-b.ensures.put (then_put c.put_place-c.ensures.put last)), omega arith)
+     record { put = then_put c.put_fields-a.ensures.put (then_put c.put_place-b.ensures.put (then_put c.put_place-c.ensures.put last)); value = omega arith }

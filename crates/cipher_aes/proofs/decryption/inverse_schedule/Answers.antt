@@ -15,7 +15,7 @@ loop-i-preserved c = let at-loop = c in
     let w = c.args.w.now in (
       omega arith,
       c.put_key.ensures.w_len_2,
-      one_key_more at-loop.loop-i.v c.put_key.new.0 (λ j. inv_mix_columns (key_at w j)) at-loop.loop-i.i
+      one_key_more at-loop.loop-i.v c.put_key.new.w (λ j. inv_mix_columns (key_at w j)) at-loop.loop-i.i
           (c.put_key.ensures.i_after.0 ∙ c.inv_mixed_key.ensures ∙ ap inv_mix_columns c.key_at.ensures)
           c.put_key.ensures.i_after.1 at-loop.loop-i.invariant.2,
     )

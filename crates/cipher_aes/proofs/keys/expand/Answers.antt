@@ -21,7 +21,7 @@ loop-i-preserved c = let at-loop = c in
       omega arith,
       c.put_key.ensures.w_len_2,
       rw add-one (c.next_key-k.ensures ∙ ap₂ next_key_of c.round_constant.ensures.0 e),
-      one_key_more at-loop.loop-i.w c.put_key.new.0 (round_key key) i (c.put_key.ensures.i_after.0 ∙ e)
+      one_key_more at-loop.loop-i.w c.put_key.new.w (round_key key) i (c.put_key.ensures.i_after.0 ∙ e)
           c.put_key.ensures.i_after.1 at-loop.loop-i.invariant.3,
     )
 
@@ -29,5 +29,5 @@ pub returns : goal.returns
 returns c = let at-loop = c in
     let n : at-loop.loop-i.i ≡ 10 = omega arith in
     let key = state c.args.key in
-    one_key_more at-loop.loop-i.w c.put_key-2.new.0 (round_key key) 10 (c.put_key-2.ensures.i_after.0 ∙ (rw n at at-loop.loop-i.invariant.2))
+    one_key_more at-loop.loop-i.w c.put_key-2.new.w (round_key key) 10 (c.put_key-2.ensures.i_after.0 ∙ (rw n at at-loop.loop-i.invariant.2))
     c.put_key-2.ensures.i_after.1 (rw n at at-loop.loop-i.invariant.3)

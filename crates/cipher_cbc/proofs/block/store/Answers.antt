@@ -4,6 +4,6 @@ use Rattle.cipher_cbc.proofs.block.store.Goals as goal
 
 pub returns : goal.returns
 returns c = stored _ _ _ _ _ _ _
-    c.Store-word.ensures
+    c.store_word.ensures
     c.store_word-2.ensures
     c.store_word-3.ensures c.store_word-4.ensures

@@ -15,10 +15,10 @@ use Rattle.cipher_cbc.proofs.chaining.open_with.Goals as goal
 
 -- what one pass of the loop writes
 abbrev opened-block : List ℕ → List ℕ → List ℕ → List ℕ → List ℕ
-opened-block w x u b = xors (eq_inv_cipher (key_at w) (key_at x) b) u
+    opened-block w x u b = xors (eq_inv_cipher (key_at w) (key_at x) b) u
 
 abbrev Opening : List ℕ → List ℕ → List ℕ → List ℕ → List ℕ → List ℕ → ℕ → List ℕ → Type 0
-Opening w x v₀ s o₀ =
+    Opening w x v₀ s o₀ =
     Left (opened-block w x) (λ u b. b) (cipher (key_at w)) s o₀ (frame (opened-block w x) (λ u b. b) (cipher (key_at w)) v₀ s)
 
 pub loop-at-init : goal.loop-at-init

@@ -13,7 +13,7 @@ use borrow.Author.Rules.{rules}
 use Rattle.cipher_cbc.proofs.chaining.seal_blocks.Goals as goal
 
 abbrev Sealing : List ℕ → List ℕ → List ℕ → ℕ → List ℕ → List ℕ → ℕ → List ℕ → Type 0
-Sealing w v₀ s i₀ o₀ =
+    Sealing w v₀ s i₀ o₀ =
     Left (sealed_block w) (sealed_block w) (cipher (key_at w)) s o₀ (take i₀ o₀ ++ seal_blocks_of (cipher (key_at w)) v₀ (drop i₀ s))
 
 pub loop-at-init : goal.loop-at-init
@@ -43,9 +43,6 @@ returns c = let start = c in
     let i = at-loop.loop-at.at in
     let m : length s - i < 16 = omega arith in
     let k : i ≤ length s = at-loop.loop-at.invariant.0.within in
-    let n : i ≡ blocks_end start.args.from s = omega (arith, m, k, at-loop.loop-at.invariant.1) in (
-      ap (λ (j : ℕ). take j at-loop.loop-at.out ++ residual (cipher (key_at w)) (state at-loop.loop-at.v) (drop j s)) (sym n)
+    let n : i ≡ blocks_end start.args.from s = omega (arith, m, k, at-loop.loop-at.invariant.1) in  record { frame_after = ap (λ (j : ℕ). take j at-loop.loop-at.out ++ residual (cipher (key_at w)) (state at-loop.loop-at.v) (drop j s)) (sym n)
           ∙ left_short (sealed_block w) (sealed_block w) (cipher (key_at w)) s start.args.out.now _ (state at-loop.loop-at.v) i at-loop.loop-at.out
-          at-loop.loop-at.invariant.0 m,
-      ap (λ (j : ℕ). drop j at-loop.loop-at.out) (sym n) ∙ at-loop.loop-at.invariant.0.rest ∙ ap (λ (j : ℕ). drop j start.args.out.now) n,
-    )
+          at-loop.loop-at.invariant.0 m; out_unchanged = ap (λ (j : ℕ). drop j at-loop.loop-at.out) (sym n) ∙ at-loop.loop-at.invariant.0.rest ∙ ap (λ (j : ℕ). drop j start.args.out.now) n }

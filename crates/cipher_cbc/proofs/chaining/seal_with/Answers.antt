@@ -17,7 +17,7 @@ sealed-blocks : (w v₀ s z o₀ v o : List ℕ) → 12 ≤ length s → o₀ �
     → take (blocks_end 12 s) o ++ residual (cipher (key_at w)) v (drop (blocks_end 12 s) s) ≡ take 12 o₀ ++ seal_blocks_of (cipher (key_at w)) v₀ (drop 12 s)
     → drop (blocks_end 12 s) o ≡ drop (blocks_end 12 s) o₀
     → Left (sealed_block w) (sealed_block w) (cipher (key_at w)) s o₀ (frame (sealed_block w) (sealed_block w) (cipher (key_at w)) v₀ s) v (blocks_end 12 s) o
-sealed-blocks w v₀ s z o₀ v o h p n d r =
+    sealed-blocks w v₀ s z o₀ v o h p n d r =
     short_left (sealed_block w) (sealed_block w) (cipher (key_at w)) s o₀ (frame (sealed_block w) (sealed_block w) (cipher (key_at w)) v₀ s) v (blocks_end 12 s) o
     (omega arith) (omega arith) n r (d ∙ opening (sealed_block w) (sealed_block w) (cipher (key_at w)) v₀ s z o₀ h p)
 

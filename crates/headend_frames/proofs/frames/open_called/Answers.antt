@@ -11,7 +11,7 @@ use Rattle.headend_frames.proofs.frames.open_called.Goals as goal
 -- the answer, with the key's length as the definition asks it
 asked : (c : tie.After-open-answer) → c.open_answer-a.result ≡ open_answer_of c.args.h c.args.bad c.args.len c.args.s c.args.direction c.args.address c.args.said c.args.number
     (message_key_fits_of c.args.write-key.now) (length c.args.tek.now) (length c.args.vector.now) (length c.args.invalid.now)
-asked c =
+    asked c =
     let x = c.args in
     c.open_answer-a.ensures
     ∙ ap (λ (b : Bool). open_answer_of x.h x.bad x.len x.s x.direction x.address x.said x.number b (length x.tek.now) (length x.vector.now) (length x.invalid.now)) c.message_key_fits.ensures

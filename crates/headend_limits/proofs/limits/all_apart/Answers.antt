@@ -15,7 +15,7 @@ loop-i-init c = (omega arith, refl)
 pub returns-then-not-is_apart : goal.returns-then-not-is_apart
 returns-then-not-is_apart c = let a = c.args in
     let l = c.loop-i in
-    apart_no (take a.n a.t1) l.i _ (behind a.n a.t1 (omega arith) l.i _ (omega (arith, c.in_use-end.ensures.0, c.loop-i-test.true)))
+    apart_no (take a.n a.entries) l.i _ (behind a.n a.entries (omega arith) l.i _ (omega (arith, c.in_use-end.ensures.0, c.loop-i-test.true)))
     a.address a.l l.invariant.1 (sym c.is_apart.ensures ∙ not-true _ c.if-not-is_apart.true)
 
 pub loop-i-smaller : goal.loop-i-smaller
@@ -26,10 +26,10 @@ loop-i-preserved c = let a = c.args in
     let l = c.loop-i in
     let small : l.i < in_use_of a.n = omega (arith, c.in_use-end.ensures.0, c.loop-i-test.true) in (
       omega (arith, c.in_use-end.ensures.0, c.loop-i-test.true),
-      apart_yes (take a.n a.t1) l.i _ (behind a.n a.t1 (omega arith) l.i _ small) a.address a.l l.invariant.1 (sym c.is_apart.ensures ∙ not-false _ c.if-not-is_apart.false),
+      apart_yes (take a.n a.entries) l.i _ (behind a.n a.entries (omega arith) l.i _ small) a.address a.l l.invariant.1 (sym c.is_apart.ensures ∙ not-false _ c.if-not-is_apart.false),
     )
 
 pub returns : goal.returns
 returns c = let a = c.args in
     let l = c.loop-i in
-    apart_end (take a.n a.t1) l.i (omega (arith, in_use_length a.n a.t1 (omega arith), l.invariant.0, c.loop-i-test.false, c.in_use-end.ensures.0)) a.address a.l l.invariant.1
+    apart_end (take a.n a.entries) l.i (omega (arith, in_use_length a.n a.entries (omega arith), l.invariant.0, c.loop-i-test.false, c.in_use-end.ensures.0)) a.address a.l l.invariant.1

@@ -5,4 +5,4 @@ use Rattle.headend_limits.proofs.limits.auth_keys_fit.Goals as goal
 
 pub returns : goal.returns
 unfolding auth_keys_fit_of
-returns c = rw (c.is_within-2.ensures, c.maximum.ensures, c.is_Within.ensures, c.ak_in_range.ensures) refl
+returns c = rw (c.is_within-2.ensures, c.maximum.ensures, c.is_within.ensures, c.ak_in_range.ensures) refl

@@ -17,7 +17,7 @@ use Rattle.headend_limits.proofs.limits.entries_fit.Goals as goal
 -- the two tests' results are the test of the law, whose entries before are those of the entries in use
 both-same : (life clock : ℕ) (e : Entry) (i n : ℕ) (all : List Entry) (p q : Bool) → p ≡ entry_fits_of life clock e → q ≡ all_apart_of e.address e.listing (take i all)
     → take i (take n all) ≡ take i all → (p && q) ≡ (entry_fits_of life clock e && all_apart_of e.address e.listing (take i (take n all)))
-both-same life clock e i n all p q e₁ e₂ e₃ =
+    both-same life clock e i n all p q e₁ e₂ e₃ =
     ap (λ (b : Bool). b && q) e₁
     ∙ ap (λ (b : Bool). entry_fits_of life clock e && b) (e₂ ∙ ap (all_apart_of e.address e.listing) (sym e₃))
 
@@ -27,11 +27,11 @@ loop-i-init c = (omega arith, refl)
 pub returns-then-not-entry_fits-all_apart : goal.returns-then-not-entry_fits-all_apart
 returns-then-not-entry_fits-all_apart c = let a = c.args in
     let l = c.loop-i in
-    let es = take a.n a.t1 in
+    let es = take a.n a.entries in
     let small : l.i < in_use_of a.n = omega (arith, c.in_use-end.ensures.0, c.loop-i-test.true) in
-    let rest = behind a.n a.t1 (omega arith) l.i _ small in
-    let next = before_next a.n a.t1 (omega arith) l.i _ small in
-    let good = both-same a.life a.clock _ l.i a.n a.t1 _ _ c.entry_fits.ensures c.All-apart.ensures (before_all a.n a.t1 (omega arith) l.i no_entry_of small) in
+    let rest = behind a.n a.entries (omega arith) l.i _ small in
+    let next = before_next a.n a.entries (omega arith) l.i _ small in
+    let good = both-same a.life a.clock _ l.i a.n a.entries _ _ c.entry_fits.ensures c.all_apart.ensures (before_all a.n a.entries (omega arith) l.i no_entry_of small) in
     entry_no es l.i _ rest a.life a.clock next l.invariant.1 (sym good ∙ not-true _ c.if-not-entry_fits-all_apart.true)
 
 pub loop-i-smaller : goal.loop-i-smaller
@@ -40,14 +40,14 @@ loop-i-smaller c = omega (arith, c.in_use-end.ensures.0, c.loop-i-test.true)
 pub loop-i-preserved : goal.loop-i-preserved
 loop-i-preserved c = let a = c.args in
     let l = c.loop-i in
-    let es = take a.n a.t1 in
+    let es = take a.n a.entries in
     let small : l.i < in_use_of a.n = omega (arith, c.in_use-end.ensures.0, c.loop-i-test.true) in
-    let rest = behind a.n a.t1 (omega arith) l.i _ small in
-    let next = before_next a.n a.t1 (omega arith) l.i _ small in
-    let good = both-same a.life a.clock _ l.i a.n a.t1 _ _ c.entry_fits.ensures c.All-apart.ensures (before_all a.n a.t1 (omega arith) l.i no_entry_of small) in
+    let rest = behind a.n a.entries (omega arith) l.i _ small in
+    let next = before_next a.n a.entries (omega arith) l.i _ small in
+    let good = both-same a.life a.clock _ l.i a.n a.entries _ _ c.entry_fits.ensures c.all_apart.ensures (before_all a.n a.entries (omega arith) l.i no_entry_of small) in
     (omega arith, entry_yes es l.i _ rest a.life a.clock next l.invariant.1 (sym good ∙ not-false _ c.if-not-entry_fits-all_apart.false))
 
 pub returns : goal.returns
 returns c = let a = c.args in
     let l = c.loop-i in
-    entries_end (take a.n a.t1) l.i (omega (arith, in_use_length a.n a.t1 (omega arith), l.invariant.0, c.loop-i-test.false, c.in_use-end.ensures.0)) a.life a.clock l.invariant.1
+    entries_end (take a.n a.entries) l.i (omega (arith, in_use_length a.n a.entries (omega arith), l.invariant.0, c.loop-i-test.false, c.in_use-end.ensures.0)) a.life a.clock l.invariant.1

@@ -16,7 +16,7 @@ returns-then-e-address c = let a = c.args in
     let l = c.loop-i in
     let small : l.i < in_use_of a.modems = omega (arith, c.in_use-n.ensures.0, c.loop-i-test.true) in
     c.known_here.ensures
-    ∙ known_hit (take a.modems a.t1) l.i _ (behind a.modems a.t1 (omega arith) l.i _ small) a.address l.invariant.1 (eq-eqb _ _ c.if-e-address.true)
+    ∙ known_hit (take a.modems a.entries) l.i _ (behind a.modems a.entries (omega arith) l.i _ small) a.address l.invariant.1 (eq-eqb _ _ c.if-e-address.true)
 
 pub loop-i-smaller : goal.loop-i-smaller
 loop-i-smaller c = omega (arith, c.in_use-n.ensures.0, c.loop-i-test.true)
@@ -26,11 +26,11 @@ loop-i-preserved c = let a = c.args in
     let l = c.loop-i in
     let small : l.i < in_use_of a.modems = omega (arith, c.in_use-n.ensures.0, c.loop-i-test.true) in (
       omega arith,
-      known_miss (take a.modems a.t1) l.i _ (behind a.modems a.t1 (omega arith) l.i _ small) a.address l.invariant.1 (ne_eqb _ _ c.if-e-address.false),
+      known_miss (take a.modems a.entries) l.i _ (behind a.modems a.entries (omega arith) l.i _ small) a.address l.invariant.1 (ne_eqb _ _ c.if-e-address.false),
     )
 
 pub returns : goal.returns
 returns c = let a = c.args in
     let l = c.loop-i in
     c.known_none.ensures
-    ∙ known_end (take a.modems a.t1) l.i (omega (arith, in_use_length a.modems a.t1 (omega arith), l.invariant.0, c.loop-i-test.false, c.in_use-n.ensures.0)) a.address l.invariant.1
+    ∙ known_end (take a.modems a.entries) l.i (omega (arith, in_use_length a.modems a.entries (omega arith), l.invariant.0, c.loop-i-test.false, c.in_use-n.ensures.0)) a.address l.invariant.1

@@ -25,7 +25,7 @@ use Rattle.headend_steps.proofs.receive.receive_called.Goals as goal
 
 -- ---- the entry and the reaction by their results
 known-ready : (h : HeadEnd) (address : ℕ) (k : Known) → k ≡ known_of h address → ReactionFits h (known_of h address) → ReactionFits h k
-known-ready h address k e ready = subst (ReactionFits h) (sym e) ready
+    known-ready h address k e ready = subst (ReactionFits h) (sym e) ready
 
 module _ (h : HeadEnd) (s : Found) (address : ℕ) (digest : Bool) (r : Reading) where
   reaction-is : (d : Bool) (k : Known) (w : Reaction) → d ≡ digest → k ≡ known_of h address → w ≡ reaction_of h k s.held d r.fields → w ≡ reaction_to h s address digest r
@@ -53,7 +53,7 @@ module _ (h : HeadEnd) (s : Found) (address : ℕ) (digest : Bool) (r : Reading)
 asked : (c : tie.After-receive-answer) → c.receive_answer-a.result ≡ receive_answer_of c.args.h c.args.bad c.args.len c.args.s c.args.address
     (digest_holds_of c.args.read-key.now c.args.r.digest c.args.message.now) (keys_fit_of c.args.read-key.now c.args.write-key.now)
     c.args.r (length c.args.auth.now) (length c.args.out.now)
-asked c =
+    asked c =
     let x = c.args in
     answer_is x.h x.s x.address (digest_holds_of x.read-key.now x.r.digest x.message.now) x.r x.bad x.len x.read-key.now x.write-key.now
     (length x.auth.now) (length x.out.now) _ _ _ c.receive_answer-a.result c.is_digest_right-digest.ensures c.message_key_fits.ensures c.message_key_fits-2.ensures c.receive_answer-a.ensures

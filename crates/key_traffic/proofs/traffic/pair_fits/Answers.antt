@@ -6,7 +6,7 @@ pub returns : goal.returns
 unfolding pair_fits_of
 returns c = let e = c in
     simp (
-      c.is_Within.ensures,
+      c.is_within.ensures,
       e.is_next.ensures,
       e.key_fits-2.ensures,
       e.key_fits.ensures,

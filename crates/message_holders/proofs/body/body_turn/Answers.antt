@@ -9,7 +9,7 @@ use Rattle.message_holders.proofs.body.body_turn.Goals as goal
 
 -- the attribute ends inside the message
 ends : (c : tie.After-found) → c.in-Attr.start + c.in-Attr.len ≤ length c.args.m.now
-ends c = within_attr c.in-Attr.is c.requires.1
+    ends c = within_attr c.in-Attr.is c.requires.1
 
 )
 

@@ -8,7 +8,7 @@ use Rattle.message_holders.proofs.inside.inside_turn.Goals as goal
 
 -- the attribute ends inside the slice
 ends : (c : tie.After-found) → c.in-Attr.start + c.in-Attr.len ≤ length c.args.s.now
-ends c = within_attr c.in-Attr.is c.requires
+    ends c = within_attr c.in-Attr.is c.requires
 
 )
 

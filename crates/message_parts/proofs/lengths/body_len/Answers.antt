@@ -45,4 +45,4 @@ returns-then-f-eq-CODE_TEK_INVALID c = (length_11 c.args.f c.args.key.now c.if-f
 
 pub returns : goal.returns
 returns c = let e : c.args.f.code ≡ 12 = last_code c.requires.low c.requires.high c.if-f-eq-CODE_AUTHORIZATION_REQUEST.false c.if-f-eq-CODE_AUTHORIZATION_REPLY.false c.if-f-eq-CODE_AUTHORIZATION_REJECT.false c.if-f-eq-CODE_KEY_REQUEST.false c.if-f-eq-CODE_KEY_REPLY.false c.if-f-eq-CODE_KEY_REJECT.false c.if-f-eq-CODE_AUTHORIZATION_INVALID.false c.if-f-eq-CODE_TEK_INVALID.false in
-    (length_12 c.args.f c.args.key.now e, omega arith)
+     record { body_length = length_12 c.args.f c.args.key.now e; upper_bound = omega arith }

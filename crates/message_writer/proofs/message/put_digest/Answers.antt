@@ -17,4 +17,4 @@ returns-then-not-is_required c = let e : is_required_of c.args.code 11 ≡ false
 pub returns : goal.returns
 unfolding digest_items
 returns c = let e : is_required_of c.args.code 11 ≡ true = sym c.is_required.ensures ∙ not-false c.is_required.result c.if-not-is_required.false in
-    (rw e c.put_attr.ensures.wrote, (omega arith, λ h. omega arith))
+     record { wrote = rw e c.put_attr.ensures.wrote; upper_bound = (omega arith, λ h. omega arith) }

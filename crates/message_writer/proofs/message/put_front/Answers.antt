@@ -34,4 +34,4 @@ returns-then-code-eq-CODE_TEK_INVALID c = (wrote_as (front_11 c.args.f c.args.au
 
 pub returns : goal.returns
 returns c = let e : c.args.f.code ≡ 12 = last_code c.requires.low c.requires.high c.if-code-eq-CODE_AUTHORIZATION_REQUEST.false c.if-code-eq-CODE_AUTHORIZATION_REPLY.false c.if-code-eq-CODE_AUTHORIZATION_REJECT.false c.if-code-eq-CODE_KEY_REQUEST.false c.if-code-eq-CODE_KEY_REPLY.false c.if-code-eq-CODE_KEY_REJECT.false c.if-code-eq-CODE_AUTHORIZATION_INVALID.false c.if-code-eq-CODE_TEK_INVALID.false in
-    (wrote_as (front_12 c.args.f c.args.auth.now e) (wrote_none _ 0), omega arith)
+     record { wrote = wrote_as (front_12 c.args.f c.args.auth.now e) (wrote_none _ 0); upper_bound = omega arith }

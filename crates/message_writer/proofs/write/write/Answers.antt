@@ -13,18 +13,18 @@ use Rattle.message_writer.proofs.write.write.Goals as goal
 
 -- Question 1 is answered with yes
 fit : (c : tie.Else1) → fields_fit_of c.args.f ≡ true
-fit c = sym c.fields_fit.ensures ∙ not-false c.fields_fit.result c.if-not-fields_fit.false
+    fit c = sym c.fields_fit.ensures ∙ not-false c.fields_fit.result c.if-not-fields_fit.false
 
 -- So is question 2 of the AUTH-Key
 carried : (c : tie.Else2) → auth_key_fits_of c.args.f (length c.args.auth.now) ≡ true
-carried c = sym c.auth_key_fits.ensures ∙ not-false c.auth_key_fits.result c.if-not-auth_key_fits.false
+    carried c = sym c.auth_key_fits.ensures ∙ not-false c.auth_key_fits.result c.if-not-auth_key_fits.false
 
 -- and of the message key
 keyed : (c : tie.Else3) → message_key_fits_of c.args.key.now ≡ true
-keyed c = sym c.message_key_fits.ensures ∙ not-false c.message_key_fits.result c.if-not-message_key_fits.false
+    keyed c = sym c.message_key_fits.ensures ∙ not-false c.message_key_fits.result c.if-not-message_key_fits.false
 
 writable : (c : tie.Else2) → Writable c.args.f (length c.args.auth.now)
-writable c = fits_writable _ _ (fit c) (carried c)
+    writable c = fits_writable _ _ (fit c) (carried c)
 
 pub returns-then-not-fields_fit : goal.returns-then-not-fields_fit
 returns-then-not-fields_fit c = let a = c.args in

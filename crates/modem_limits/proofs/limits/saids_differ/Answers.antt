@@ -5,4 +5,4 @@ use Rattle.modem_limits.proofs.limits.saids_differ.Goals as goal
 
 pub returns : goal.returns
 returns c = let a = c.args in
-    rw c.All-apart.ensures (differ_pairs a.n a.t2 (omega arith))
+    rw c.all_apart.ensures (differ_pairs a.n a.teks (omega arith))

@@ -5,7 +5,7 @@ use Rattle.modem_limits.proofs.limits.timer_fits.Goals as goal
 
 pub returns-then-must : goal.returns-then-must
 unfolding timer_fits_of
-returns-then-must c = simp c.if-must.true (rw c.is_Within.ensures refl)
+returns-then-must c = simp c.if-must.true (rw c.is_within.ensures refl)
 
 pub returns : goal.returns
 unfolding timer_fits_of

@@ -15,6 +15,6 @@ returns-then-i-ge-NO_SLOT c = widths_unknown c.args.m _ c.if-f-ne-CODE_KEY_REPLY
 
 pub returns : goal.returns
 returns c = let a = c.args in
-    let small : slot_of_said_of a.t1 a.f.said < 4 = omega (arith, c.slot_of_said-i.ensures.0, c.if-i-ge-NO_SLOT.false) in
-    wide_there a.t1 a.f c.slot_of_said-i.result c.slot_of_said-i.ensures.0 c.width-w.result c.are_wide.result c.are_wide-2.result c.width-w.ensures.0 c.are_wide.ensures c.are_wide-2.ensures
-    ∙ widths_known a.t1 a.f c.if-f-ne-CODE_KEY_REPLY.false small
+    let small : slot_of_said_of a.m a.f.said < 4 = omega (arith, c.slot_of_said-i.ensures.0, c.if-i-ge-NO_SLOT.false) in
+    wide_there a.m a.f c.slot_of_said-i.result c.slot_of_said-i.ensures.0 c.width-w.result c.are_wide.result c.are_wide-2.result c.width-w.ensures.0 c.are_wide.ensures c.are_wide-2.ensures
+    ∙ widths_known a.m a.f c.if-f-ne-CODE_KEY_REPLY.false small

@@ -31,4 +31,4 @@ pub returns : goal.returns
 returns c = let x = c.args in
     let pre = c.requires in
     let done = c.applied_line.ensures in
-    (call_line x.e x.line.now x.r _ _ _ _ _ _ _ _ pre.0 c.put_octets_at.ensures c.put_octets_at-2.ensures c.put_octets_at-3.ensures c.put_octets_at-4.ensures (frame_lent x.line.now x.r.octets pre.0.octets pre.1.0) done.0, done.1)
+     record { answers_step = call_line x.e x.line.now x.r _ _ _ _ _ _ _ _ pre.0 c.put_octets_at.ensures c.put_octets_at-2.ensures c.put_octets_at-3.ensures c.put_octets_at-4.ensures (frame_lent x.line.now x.r.octets pre.0.octets pre.1.0) done.0; count_le_answer_line = done.1 }

@@ -8,4 +8,4 @@ pub returns : goal.returns
 unfolding comma_hex
 returns c = let put-octet = c.put_octet-a in
     let put-hex = c.put_hex in
-    (then_put put-octet.ensures.0 put-hex.ensures.0, omega (arith, put-octet.ensures.1, put-hex.ensures.1))
+     record { put = then_put put-octet.ensures.put put-hex.ensures.put; value = omega (arith, put-octet.ensures.value, put-hex.ensures.value) }

@@ -11,4 +11,4 @@ returns-then-not-on c = let a = c.args in
 
 pub returns : goal.returns
 returns c = let put-comma-hex = c.put_comma_hex in
-    (if_on c.args.on (not-false _ c.if-not-on.false) put-comma-hex.ensures.0, omega (arith, put-comma-hex.ensures.1))
+     record { put = if_on c.args.on (not-false _ c.if-not-on.false) put-comma-hex.ensures.put; upper_bound = omega (arith, put-comma-hex.ensures.value) }

@@ -11,4 +11,4 @@ returns-then-not-on c = let a = c.args in
 
 pub returns : goal.returns
 returns c = let put-keys = c.put_keys in
-    (if_on c.args.on (not-false _ c.if-not-on.false) put-keys.ensures.0, omega (arith, put-keys.ensures.1))
+     record { put = if_on c.args.on (not-false _ c.if-not-on.false) put-keys.ensures.put; upper_bound = omega (arith, put-keys.ensures.upper_bound) }

@@ -18,4 +18,4 @@ returns c = let a = c.args in
     let put-octet = c.put_octet-a in
     let put-decimal = c.put_decimal-b in
     let put-keys = c.put_keys in
-    (if_on (eqb a.number 0) (eq-eqb a.number 0 c.if-number-ne-DONE.false) (then_put (then_put put-octet.ensures.0 (decimal_put _ _ a.key _ _ put-decimal.ensures.0 put-decimal.ensures.1.0)) put-keys.ensures.0), omega (arith, put-octet.ensures.1, put-decimal.ensures.1.1, put-keys.ensures.1))
+     record { put = if_on (eqb a.number 0) (eq-eqb a.number 0 c.if-number-ne-DONE.false) (then_put (then_put put-octet.ensures.put (decimal_put _ _ a.key _ _ put-decimal.ensures.0 put-decimal.ensures.1.0)) put-keys.ensures.put); upper_bound = omega (arith, put-octet.ensures.value, put-decimal.ensures.1.1, put-keys.ensures.upper_bound) }

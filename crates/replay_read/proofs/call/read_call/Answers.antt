@@ -10,14 +10,14 @@ returns-then-line-gt-LINE_MAX c = long_reads c.args.line.now c.no_call.result (o
 
 pub returns-then-not-k : goal.returns-then-not-k
 unfolding text_of
-returns-then-not-k c = let cut-Line = c.cut-Line in
+returns-then-not-k c = let cut-Line = c.cut_line-c in
     let kind-named = c.kind_named-k in
     let no-call2 = c.no_call-then-not-k in
     other_reads c.args.line.now cut-Line.result kind-named.result (omega (arith, c.if-line-gt-LINE_MAX.false)) cut-Line.ensures.1 kind-named.ensures no-call2.result (not-true _ c.if-not-k.true) no-call2.ensures
 
 pub returns : goal.returns
 unfolding text_of
-returns c = let cut-Line = c.cut-Line in
+returns c = let cut-Line = c.cut_line-c in
     let kind-named = c.kind_named-k in
     let read-kind = c.read_kind in
     known_reads c.args.line.now cut-Line.result kind-named.result (omega (arith, c.if-line-gt-LINE_MAX.false)) cut-Line.ensures.1 kind-named.ensures read-kind.result (not-false _ c.if-not-k.false) read-kind.ensures

@@ -14,14 +14,14 @@ use Rattle.schedule_table.proofs.print.fill.Goals as goal
 
 -- what the loop's test tells, whatever numbers it compares with
 calls-left : (k n : ℕ) (b : Bool) → (leb k n && b) ≡ true → k ≤ n
-calls-left k n b e = leb-true k n (both (leb k n) b e).0
+    calls-left k n b e = leb-true k n (both (leb k n) b e).0
 
 room : (b : Bool) (k n : ℕ) → (b && leb k n) ≡ true → k ≤ n
-room b k n e = leb-true k n (both b (leb k n) e).1
+    room b k n e = leb-true k n (both b (leb k n) e).1
 
 less : (c n : Cursor) → 1 ≤ c.left → n ≡ next_of c → n.left < c.left
-unfolding next_of
-less c n more e = omega (arith, ap (λ (k : Cursor). k.left) e)
+    unfolding next_of
+    less c n more e = omega (arith, ap (λ (k : Cursor). k.left) e)
 
 pub loop-cursor-init : goal.loop-cursor-init
 loop-cursor-init c = filling_first c.args.out.now c.args.c c.requires
@@ -48,7 +48,7 @@ loop-cursor-preserved c = let a = c.args in
     let p = c.put_newer-at in
     let more : 1 ≤ l.cursor.left = omega (arith, calls-left) in
     let wide : 84 ≤ length l.out - l.at = omega (arith, room) in
-    filling_as a.out.now a.c l.out l.cursor n.result l.at p.result p.new.0 l.invariant n.ensures more wide p.ensures.0 p.ensures.1
+    filling_as a.out.now a.c l.out l.cursor n.result l.at p.result p.new.out l.invariant n.ensures more wide p.ensures.put p.ensures.upper_bound
 
 pub shape_of-out : goal.shape_of-out
 shape_of-out c = c.loop-cursor.invariant.same

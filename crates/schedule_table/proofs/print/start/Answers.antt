@@ -20,10 +20,10 @@ returns-in-Table c = let given = c.args in
     let s = given.input.now in
     let i = sym c.read-asked.ensures ∙ m.1 in
     let p = start_is s (Table m.0.0) i in (
-      t.ensures.0 ∙ ap printed_of p,
+      t.ensures.value ∙ ap printed_of p,
       (
-        t.ensures.1.0 ∙ ap (λ (q : Part). overlay given.out.now q.written) p,
-        (t.ensures.1.1, cursor_steady m.0.0 t.result (table_is s m.0.0 i).1 (ap (λ (q : Printed). q.cursor) t.ensures.0)),
+        t.ensures.out_after.0 ∙ ap (λ (q : Part). overlay given.out.now q.written) p,
+        (t.ensures.out_after.1, cursor_steady m.0.0 t.result (table_is s m.0.0 i).1 (ap (λ (q : Printed). q.cursor) t.ensures.value)),
       ),
     )
 
@@ -31,10 +31,10 @@ pub returns-in-Refused : goal.returns-in-Refused
 returns-in-Refused c = let given = c.args in
     let t = c.start_refused in
     let p = start_is given.input.now Refused (sym c.read-asked.ensures ∙ c.in-Refused.is) in
-    let count : t.result.count ≡ 2 = ap (λ (q : Printed). q.count) t.ensures.0 in (
-      t.ensures.0 ∙ ap printed_of p,
+    let count : t.result.count ≡ 2 = ap (λ (q : Printed). q.count) t.ensures.value in (
+      t.ensures.value ∙ ap printed_of p,
       (
-        t.ensures.1 ∙ ap (λ (q : Part). overlay given.out.now q.written) p,
-        (omega arith, cursor_steady nothing_asked t.result refused_fits (ap (λ (q : Printed). q.cursor) t.ensures.0)),
+        t.ensures.out_after ∙ ap (λ (q : Part). overlay given.out.now q.written) p,
+        (omega arith, cursor_steady nothing_asked t.result refused_fits (ap (λ (q : Printed). q.cursor) t.ensures.value)),
       ),
     )

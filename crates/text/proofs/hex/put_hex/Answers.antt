@@ -32,4 +32,4 @@ shape_of-out c = c.loop-i.invariant.1.1.0
 pub returns : goal.returns
 returns c = let l = c.loop-i in
     let a = c.args in
-    let all : l.i ≡ length a.v.now = omega arith in (record { after = omega (arith, hex_length a.v.now); stored = l.invariant.1.1.1 ∙ ap (λ (k : ℕ). sets a.out.now a.at (hex_of (take k a.v.now))) all ∙ ap (λ l. sets a.out.now a.at (hex_of l)) (take-length a.v.now) }, omega arith)
+    let all : l.i ≡ length a.v.now = omega arith in  record { put = record { after = omega (arith, hex_length a.v.now); stored = l.invariant.1.1.1 ∙ ap (λ (k : ℕ). sets a.out.now a.at (hex_of (take k a.v.now))) all ∙ ap (λ l. sets a.out.now a.at (hex_of l)) (take-length a.v.now) }; value = omega arith }
