@@ -18,7 +18,7 @@ def decls(text):
     """top-level blocks: list of (kind, lines)"""
     blocks=[];cur=[]
     for line in text.split('\n'):
-        if line and not line[0].isspace() and not line.startswith(('unfolding ','#')):
+        if line and not line[0].isspace() and not line.startswith(('unfolding ','#',')',']','}')):
             if cur and not (len(cur)>0 and cur_is_sig_for(cur,line)):
                 blocks.append(cur); cur=[]
         cur.append(line)
@@ -135,6 +135,7 @@ def convert(crate,path,d):
                         mp=ls[0][2] and mutparams(ls[0][2][3] or '')
                         if mp:
                             body=re.sub(r"(?<![\w.'-])"+re.escape(x)+r"\.new\.(\d)",lambda q: x+'.new.'+(mp[int(q.group(1))] if int(q.group(1))<len(mp) else q.group(1)),body)
+        body=re.sub(r"\bnot-(?:true|false) _ (c\.[\w.'-]+)",r"\1",body)
         body=re.sub(r"\n(?=[^\s])","\n    ",body)
         return body
     blocks=decls(text)

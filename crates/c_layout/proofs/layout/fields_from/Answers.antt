@@ -2,8 +2,6 @@
 use Rattle.c_layout.specs.Layout.{fields_from_of}
 use Rattle.c_layout.proofs.layout.fields_from.Goals as goal
 
-)
-
 pub returns : goal.returns
 unfolding fields_from_of
 returns c = simp (
@@ -22,3 +20,4 @@ returns c = simp (
   c.part-2.ensures,
   c.params_from-newer.ensures,
   c.part-3.ensures,
+    )

@@ -7,8 +7,6 @@ use lib.Seq.{take_all}
 use Rattle.digest_hmac.proofs.FillLaws.{put_more}
 use Rattle.digest_hmac.proofs.digest.put20.Goals as goal
 
-)
-
 pub loop-k-init : goal.loop-k-init
 loop-k-init c = (omega arith, omega arith, refl, refl)
 
@@ -20,6 +18,7 @@ loop-k-preserved c = (
   rw c.loop-k.invariant.3
       (put_more c.args.d c.args.out.now c.args.at
       c.loop-k.k (omega arith)),
+    )
 
 pub shape_of-out : goal.shape_of-out
 shape_of-out c = c.loop-k.invariant.2

@@ -1,6 +1,5 @@
 -- `headend_limits::limits::all_apart` meets its contract.
 use mathlib.Core.Path.{refl, sym, ◌∙◌}
-use borrow.Author.Tests.{not-true, not-false}
 use Prim.Native.Nat.{◌-◌, ◌<◌}
 use native.Mathlib.Omega.{arith}
 use lib.ListN.{take}
@@ -16,7 +15,7 @@ pub returns-then-not-is_apart : goal.returns-then-not-is_apart
 returns-then-not-is_apart c = let a = c.args in
     let l = c.loop-i in
     apart_no (take a.n a.entries) l.i _ (behind a.n a.entries (omega arith) l.i _ (omega (arith, c.in_use-end.ensures.0, c.loop-i-test.true)))
-    a.address a.l l.invariant.1 (sym c.is_apart.ensures ∙ not-true _ c.if-not-is_apart.true)
+    a.address a.l l.invariant.1 (sym c.is_apart.ensures ∙ c.if-not-is_apart.true)
 
 pub loop-i-smaller : goal.loop-i-smaller
 loop-i-smaller c = omega (arith, c.in_use-end.ensures.0, c.loop-i-test.true)
@@ -26,7 +25,7 @@ loop-i-preserved c = let a = c.args in
     let l = c.loop-i in
     let small : l.i < in_use_of a.n = omega (arith, c.in_use-end.ensures.0, c.loop-i-test.true) in (
       omega (arith, c.in_use-end.ensures.0, c.loop-i-test.true),
-      apart_yes (take a.n a.entries) l.i _ (behind a.n a.entries (omega arith) l.i _ small) a.address a.l l.invariant.1 (sym c.is_apart.ensures ∙ not-false _ c.if-not-is_apart.false),
+      apart_yes (take a.n a.entries) l.i _ (behind a.n a.entries (omega arith) l.i _ small) a.address a.l l.invariant.1 (sym c.is_apart.ensures ∙ c.if-not-is_apart.false),
     )
 
 pub returns : goal.returns

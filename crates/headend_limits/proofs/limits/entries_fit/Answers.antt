@@ -5,7 +5,6 @@ use mathlib.Core.List.{List}
 use Prim.Native.Nat.{ℕ, ◌-◌, ◌<◌}
 use native.Mathlib.Omega.{arith}
 use lib.ListN.{take}
-use borrow.Author.Tests.{not-true, not-false}
 use Rattle.headend_state.specs.declared.state.Entry.{Entry}
 use Rattle.headend_state.specs.State.{no_entry_of}
 use Rattle.headend_state.specs.Entries.{in_use_of}
@@ -32,7 +31,7 @@ returns-then-not-entry_fits-all_apart c = let a = c.args in
     let rest = behind a.n a.entries (omega arith) l.i _ small in
     let next = before_next a.n a.entries (omega arith) l.i _ small in
     let good = both-same a.life a.clock _ l.i a.n a.entries _ _ c.entry_fits.ensures c.all_apart.ensures (before_all a.n a.entries (omega arith) l.i no_entry_of small) in
-    entry_no es l.i _ rest a.life a.clock next l.invariant.1 (sym good ∙ not-true _ c.if-not-entry_fits-all_apart.true)
+    entry_no es l.i _ rest a.life a.clock next l.invariant.1 (sym good ∙ c.if-not-entry_fits-all_apart.true)
 
 pub loop-i-smaller : goal.loop-i-smaller
 loop-i-smaller c = omega (arith, c.in_use-end.ensures.0, c.loop-i-test.true)
@@ -45,7 +44,7 @@ loop-i-preserved c = let a = c.args in
     let rest = behind a.n a.entries (omega arith) l.i _ small in
     let next = before_next a.n a.entries (omega arith) l.i _ small in
     let good = both-same a.life a.clock _ l.i a.n a.entries _ _ c.entry_fits.ensures c.all_apart.ensures (before_all a.n a.entries (omega arith) l.i no_entry_of small) in
-    (omega arith, entry_yes es l.i _ rest a.life a.clock next l.invariant.1 (sym good ∙ not-false _ c.if-not-entry_fits-all_apart.false))
+    (omega arith, entry_yes es l.i _ rest a.life a.clock next l.invariant.1 (sym good ∙ c.if-not-entry_fits-all_apart.false))
 
 pub returns : goal.returns
 returns c = let a = c.args in

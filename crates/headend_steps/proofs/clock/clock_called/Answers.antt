@@ -1,6 +1,5 @@
 -- `headend_steps::clock::clock_called` meets its contract.
 use mathlib.Core.Path.{sym, ◌∙◌, ap}
-use borrow.Author.Tests.{not-true, not-false}
 use Rattle.questions.specs.declared.refusal.Answer.{Answer}
 use Rattle.headend_state.specs.declared.state.HeadEnd.{HeadEnd}
 use Rattle.headend_state.specs.State.{answered_call}
@@ -13,7 +12,7 @@ unfolding clock_called_of
 returns-then-not-is_done c = let x = c.args in
     let a = c.clock_answer-a.result in
     c.answered.ensures
-    ∙ clock_refused x.h x.t a (sym c.is_done.ensures ∙ not-true _ c.if-not-is_done.true)
+    ∙ clock_refused x.h x.t a (sym c.is_done.ensures ∙ c.if-not-is_done.true)
     ∙ ap (λ (y : Answer). clock_for y x.h x.t) c.clock_answer-a.ensures
 
 pub returns : goal.returns
@@ -22,5 +21,5 @@ returns c = let x = c.args in
     let a = c.clock_answer-a.result in
     c.answered-2.ensures
     ∙ ap (λ (y : HeadEnd). answered_call a y) c.with_clock-next.ensures
-    ∙ clock_moved x.h x.t a (sym c.is_done.ensures ∙ not-false _ c.if-not-is_done.false)
+    ∙ clock_moved x.h x.t a (sym c.is_done.ensures ∙ c.if-not-is_done.false)
     ∙ ap (λ (y : Answer). clock_for y x.h x.t) c.clock_answer-a.ensures

@@ -1,6 +1,5 @@
 -- `headend_steps::listing::list_called` meets its contract.
 use mathlib.Core.Path.{sym, ◌∙◌, ap}
-use borrow.Author.Tests.{not-true, not-false}
 use Rattle.questions.specs.declared.refusal.Answer.{Answer}
 use Rattle.questions.proofs.AnswerLaws.{is-done}
 use Rattle.headend_state.specs.declared.state.HeadEnd.{HeadEnd}
@@ -14,13 +13,13 @@ unfolding list_called_of
 returns-then-not-is_done c = let x = c.args in
     let a = c.list_answer-a.result in
     c.answered.ensures
-    ∙ list_refused x.h x.address x.allowed x.l a (sym c.is_done.ensures ∙ not-true _ c.if-not-is_done.true)
+    ∙ list_refused x.h x.address x.allowed x.l a (sym c.is_done.ensures ∙ c.if-not-is_done.true)
     ∙ ap (λ (y : Answer). list_for y x.h x.address x.allowed x.l) c.list_answer-a.ensures
 
 pub grown-next-requires : goal.grown-next-requires
 grown-next-requires c = let x = c.args in
     let a = c.list_answer-a.result in
-    let done = is-done a (sym c.is_done.ensures ∙ not-false _ c.if-not-is_done.false) in
+    let done = is-done a (sym c.is_done.ensures ∙ c.if-not-is_done.false) in
     let asked = list_asked x.h x.address x.allowed x.l x.bad x.clash x.len x.octets (sym c.list_answer-a.ensures ∙ done) in
     (asked.entry_room, asked.few)
 
@@ -30,5 +29,5 @@ returns c = let x = c.args in
     let a = c.list_answer-a.result in
     c.answered-2.ensures
     ∙ ap (λ (y : HeadEnd). answered_call a y) c.grown-next.ensures
-    ∙ list_grown x.h x.address x.allowed x.l a (sym c.is_done.ensures ∙ not-false _ c.if-not-is_done.false)
+    ∙ list_grown x.h x.address x.allowed x.l a (sym c.is_done.ensures ∙ c.if-not-is_done.false)
     ∙ ap (λ (y : Answer). list_for y x.h x.address x.allowed x.l) c.list_answer-a.ensures

@@ -4,7 +4,7 @@ use mathlib.Core.Bool.{Bool, true, ◌&&◌}
 use mathlib.Core.List.{List}
 use Prim.Native.Nat.{ℕ}
 use lib.ListN.{length}
-use borrow.Author.Tests.{not-true, not-false, eqb-true}
+use borrow.Author.Tests.{eqb-true}
 use Rattle.questions.specs.declared.refusal.Answer.{Answer}
 use Rattle.questions.specs.declared.refusal.Answer.TheVariants.{Done}
 use Rattle.key_traffic.specs.Octets.{overlay}
@@ -63,14 +63,14 @@ unfolding receive_called_of receive_written_of
 returns-then-not-is_done c = let x = c.args in
     let a = c.receive_answer-a in
     let w = reaction_to x.h x.s x.address (digest_holds_of x.read-key.now x.r.digest x.message.now) x.r in
-    let gone = receive_refused x.h w x.auth.now x.write-key.now a.result (sym c.is_done.ensures ∙ not-true _ c.if-not-is_done.true) in (
+    let gone = receive_refused x.h w x.auth.now x.write-key.now a.result (sym c.is_done.ensures ∙ c.if-not-is_done.true) in (
       c.answered.ensures ∙ gone.0 ∙ ap (λ (y : Answer). called_for y x.h w x.auth.now x.write-key.now) (asked c),
       ap (overlay x.out.now) (gone.1 ∙ ap (λ (y : Answer). written_for y w x.auth.now x.write-key.now) (asked c)),
     )
 
 pub react-w-requires : goal.react-w-requires
 react-w-requires c = let x = c.args in
-    let done = sym (asked c) ∙ is-done c.receive_answer-a.result (sym c.is_done.ensures ∙ not-false _ c.if-not-is_done.false) in
+    let done = sym (asked c) ∙ is-done c.receive_answer-a.result (sym c.is_done.ensures ∙ c.if-not-is_done.false) in
     known-ready x.h x.address c.entry_of-k.result c.entry_of-k.ensures
     (reaction_ready x.h x.bad x.len x.s x.address (digest_holds_of x.read-key.now x.r.digest x.message.now) (keys_fit_of x.read-key.now x.write-key.now) x.r (length x.auth.now) (length x.out.now) done)
 
@@ -78,7 +78,7 @@ pub put_answer-n-requires : goal.put_answer-n-requires
 put_answer-n-requires c = let x = c.args in
     let digest = digest_holds_of x.read-key.now x.r.digest x.message.now in
     let keys = keys_fit_of x.read-key.now x.write-key.now in
-    let done = sym (asked c) ∙ is-done c.receive_answer-a.result (sym c.is_done.ensures ∙ not-false _ c.if-not-is_done.false) in
+    let done = sym (asked c) ∙ is-done c.receive_answer-a.result (sym c.is_done.ensures ∙ c.if-not-is_done.false) in
     let wide = key-wide x.h x.s x.address digest x.r x.bad x.len x.read-key.now x.write-key.now (length x.auth.now) (length x.out.now) done in
     reaction-there x.h x.s x.address digest x.r x.auth.now x.write-key.now (length x.out.now) _ c.entry_of-k.result c.react-w.result c.is_digest_right-digest.ensures c.entry_of-k.ensures c.react-w.ensures
     (reaction_writable x.h x.bad x.len x.s x.address digest keys x.r x.auth.now x.write-key.now (length x.out.now) done wide)
@@ -94,7 +94,7 @@ returns c = let x = c.args in
     let same = reaction-is x.h x.s x.address digest x.r _ c.entry_of-k.result w c.is_digest_right-digest.ensures c.entry_of-k.ensures c.react-w.ensures in
     let q = receive_answer_of x.h x.bad x.len x.s x.address digest (keys_fit_of x.read-key.now write) x.r (length auth) (length x.out.now) in
     let put = c.put_answer-n.ensures in
-    let over = receive_done x.h w auth write a.result (sym c.is_done.ensures ∙ not-false _ c.if-not-is_done.false) in (
+    let over = receive_done x.h w auth write a.result (sym c.is_done.ensures ∙ c.if-not-is_done.false) in (
       ap (λ (n : ℕ). record { answer = a.result; state = w.state; count = n }) put.0 ∙ over.0
           ∙ ap (λ (y : Answer). called_for y x.h w auth write) (asked c) ∙ ap (λ (y : Reaction). called_for q x.h y auth write) same,
       put.1 ∙ ap (overlay x.out.now) (over.1 ∙ ap (λ (y : Answer). written_for y w auth write) (asked c) ∙ ap (λ (y : Reaction). written_for q y auth write) same),

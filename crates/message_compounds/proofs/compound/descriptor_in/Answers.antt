@@ -2,8 +2,6 @@
 use Rattle.message_compounds.proofs.InsideLaws.{descriptor_is}
 use Rattle.message_compounds.proofs.compound.descriptor_in.Goals as goal
 
-) (descriptor_is c.args.v.now c.pass_inside-r.result c.pass_inside-r.ensures)
-
 pub returns : goal.returns
 returns c = rw (
   c.be16_of.ensures,
@@ -12,3 +10,4 @@ returns c = rw (
   c.part-2.ensures,
   c.be16_of-2.ensures,
   c.part-3.ensures,
+    ) (descriptor_is c.args.v.now c.pass_inside-r.result c.pass_inside-r.ensures)

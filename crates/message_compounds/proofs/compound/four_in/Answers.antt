@@ -2,8 +2,6 @@
 use Rattle.message_compounds.specs.Compounds.{four_value, inside_at_of}
 use Rattle.message_compounds.proofs.compound.four_in.Goals as goal
 
-)
-
 pub returns : goal.returns
 unfolding four_value inside_at_of
 returns c = rw (
@@ -18,3 +16,4 @@ returns c = rw (
   c.part-3.ensures,
   c.descriptor_in-y.ensures,
   c.part-4.ensures,
+    )

@@ -2,8 +2,6 @@
 use Rattle.message_compounds.specs.Compounds.{pair_of, inside_at_of}
 use Rattle.message_compounds.proofs.compound.pair_in.Goals as goal
 
-)
-
 pub returns : goal.returns
 unfolding pair_of inside_at_of
 returns c = rw (
@@ -14,3 +12,4 @@ returns c = rw (
   c.part.ensures,
   c.params_in-n.ensures,
   c.part-2.ensures,
+    )

@@ -2,8 +2,6 @@
 use Rattle.message_compounds.proofs.InsideLaws.{params_is}
 use Rattle.message_compounds.proofs.compound.params_in.Goals as goal
 
-) (params_is c.args.v.now c.pass_inside-r.result c.pass_inside-r.ensures)
-
 pub returns : goal.returns
 returns c = rw (
   c.octet.ensures,
@@ -14,3 +12,4 @@ returns c = rw (
   c.part-3.ensures,
   c.key_octets-2.ensures,
   c.part-4.ensures,
+    ) (params_is c.args.v.now c.pass_inside-r.result c.pass_inside-r.ensures)

@@ -3,10 +3,6 @@ use Rattle.message_holders.specs.Slots.{inside_slot_of}
 use borrow.Author.Tests.{eq-eqb, ne_eqb}
 use Rattle.message_holders.proofs.range.inside_slot.Goals as goal
 
-)
-
-)
-
 pub returns-in-8 : goal.returns-in-8
 unfolding inside_slot_of
 returns-in-8 c = rw (c.if-h-eq-TYPE_TEK_PARAMETERS.true, c.in-8.is)
@@ -31,6 +27,7 @@ returns-in_default c = simp (
   ne_eqb c.args.k 9 c.in_default.in_default-own.rest.0.0.1,
   ne_eqb c.args.k 10 c.in_default.in_default-own.rest.0.1,
   ne_eqb c.args.k 15 c.in_default.in_default-own.rest.1,
+    )
 
 pub returns-in-12 : goal.returns-in-12
 unfolding inside_slot_of
@@ -51,3 +48,4 @@ returns-in_default-k c = simp (
   ne_eqb c.args.k 12 c.in_default-k.in_default-k-own.rest.0.0.1,
   ne_eqb c.args.k 24 c.in_default-k.in_default-k-own.rest.0.1,
   ne_eqb c.args.k 20 c.in_default-k.in_default-k-own.rest.1,
+    )

@@ -8,8 +8,6 @@ use Rattle.message_rules.specs.Attributes.{octets}
 use Rattle.message_parts.proofs.CodeLaws.{key_short, last_code, length_4, length_5, length_6, length_7, length_8, length_9, length_10, length_11, length_12}
 use Rattle.message_parts.proofs.lengths.body_len.Goals as goal
 
-)
-
 pub returns-then-f-eq-CODE_AUTHORIZATION_REQUEST : goal.returns-then-f-eq-CODE_AUTHORIZATION_REQUEST
 returns-then-f-eq-CODE_AUTHORIZATION_REQUEST c = (length_4 c.args.f c.args.key.now c.if-f-eq-CODE_AUTHORIZATION_REQUEST.true, omega arith)
 
@@ -33,6 +31,7 @@ returns-then-f-eq-CODE_KEY_REPLY c = let f = c.args.f in (
       ∙ ap (λ (k : ℕ). 38 + length (octets (params_items_of f.older)) + k) c.params_len-then-f-eq-CODE_KEY_REPLY.ensures.0
       ∙ length_8 f c.args.key.now c.if-f-eq-CODE_KEY_REPLY.true digest l,
   omega arith,
+    )
 
 pub returns-then-f-eq-CODE_KEY_REJECT : goal.returns-then-f-eq-CODE_KEY_REJECT
 returns-then-f-eq-CODE_KEY_REJECT c = (length_9 c.args.f c.args.key.now c.if-f-eq-CODE_KEY_REJECT.true, omega arith)

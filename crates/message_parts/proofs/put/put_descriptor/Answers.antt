@@ -7,19 +7,15 @@ use Rattle.message_rules.proofs.PartsWritten.{descriptor_length}
 use Rattle.message_parts.proofs.Stores.{then_items, then_inside, wrote_none}
 use Rattle.message_parts.proofs.put.put_descriptor.Goals as goal
 
-)
-
 pub returns-then-not-on : goal.returns-then-not-on
 returns-then-not-on c = (rw (not-true c.args.on c.if-not-on.true) (wrote_none _ _), omega arith)
 
 pub returns : goal.returns
 unfolding descriptor_items_of
-returns c = (
-  rw (not-false c.args.on c.if-not-on.false)
+returns c =  record { wrote = rw (not-false c.args.on c.if-not-on.false)
       (then_inside
       (sym (descriptor_length c.args.d))
       c.put_head-a.ensures.0
       c.put_head-a.ensures.1
       (then_items c.put_two-b.ensures.wrote (then_items c.put_one-c.ensures.wrote c.put_two.ensures.wrote))
-      refl),
-  omega arith,
+      refl); upper_bound = omega arith }

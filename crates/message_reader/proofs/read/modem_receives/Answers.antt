@@ -4,10 +4,6 @@ use borrow.Author.Tests.{le-leb, lt-leb}
 use native.Mathlib.Omega.{arith}
 use Rattle.message_reader.proofs.read.modem_receives.Goals as goal
 
-)
-
-)
-
 pub returns-in-5-to-6 : goal.returns-in-5-to-6
 unfolding receives
 returns-in-5-to-6 c = simp (le-leb 5 c.args.c (omega arith), le-leb c.args.c 6 (omega arith))
@@ -19,6 +15,7 @@ returns-in-5-to-6-2 c = simp (
   lt-leb c.args.c 6 (omega arith),
   le-leb 8 c.args.c (omega arith),
   le-leb c.args.c 11 (omega arith),
+    )
 
 pub returns-in_default : goal.returns-in_default
 unfolding receives
@@ -35,3 +32,4 @@ returns-in_default-3 c = simp (
   lt-leb c.args.c 6 (omega arith),
   le-leb 8 c.args.c (omega arith),
   lt-leb c.args.c 11 (omega arith),
+    )

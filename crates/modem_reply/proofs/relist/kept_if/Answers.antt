@@ -5,8 +5,6 @@ use borrow.Author.Tests.{not-true, not-false}
 use Rattle.modem_steps.proofs.ReadyLaws.{tek_ready, none_short}
 use Rattle.modem_reply.proofs.relist.kept_if.Goals as goal
 
-)
-
 pub returns-then-not-goes : goal.returns-then-not-goes
 unfolding kept_if_of
 returns-then-not-goes c = (simp (not-true c.args.goes c.if-not-goes.true), c.requires)
@@ -20,3 +18,4 @@ returns c = (
   simp (not-false c.args.goes c.if-not-goes.false)
       (rw (c.appended.ensures.0, c.step-s.ensures, c.no_params-none.ensures, c.tek_context-x.ensures) refl),
   c.appended.ensures.1,
+    )

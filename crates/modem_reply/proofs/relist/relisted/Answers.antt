@@ -3,8 +3,6 @@ use mathlib.Core.Path.{refl}
 use Rattle.modem_reply.specs.Relist.{relisted, kept_to}
 use Rattle.modem_reply.proofs.relist.relisted.Goals as goal
 
-)
-
 pub returns : goal.returns
 unfolding relisted kept_to
 returns c = (
@@ -18,3 +16,4 @@ returns c = (
   )
       refl,
   c.started_all.ensures.1,
+    )

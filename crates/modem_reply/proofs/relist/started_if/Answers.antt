@@ -5,8 +5,6 @@ use borrow.Author.Tests.{not-true, not-false}
 use Rattle.modem_steps.proofs.ReadyLaws.{tek_ready, none_short}
 use Rattle.modem_reply.proofs.relist.started_if.Goals as goal
 
-)
-
 pub returns-then-not-new : goal.returns-then-not-new
 unfolding started_if_of
 returns-then-not-new c = (simp (not-true c.args.new c.if-not-new.true), c.requires)
@@ -20,3 +18,4 @@ returns c = (
   simp (not-false c.args.new c.if-not-new.false)
       (rw (c.appended.ensures.0, c.step-s.ensures, c.fresh_tek.ensures, c.no_params-none.ensures, c.tek_context-x.ensures) refl),
   c.appended.ensures.1,
+    )

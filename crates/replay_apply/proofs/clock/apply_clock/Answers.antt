@@ -4,7 +4,6 @@ use Rattle.questions.specs.Refusal.{answer_number_of}
 use mathlib.Core.Path.{sym, ◌∙◌, ap}
 use Rattle.replay_apply.specs.declared.held.Changed.{Changed}
 use lib.ListN.{length}
-use borrow.Author.Tests.{not-true, not-false}
 use Rattle.replay_apply.proofs.clock.apply_clock.Goals as goal
 
 pub returns-then-not-is_done : goal.returns-then-not-is_done
@@ -12,7 +11,7 @@ returns-then-not-is_done c = let x = c.args in
     clock_head_refused x.e x.c.second x.octets.now x.write.now (length x.out.now) c.clock_held-r.result.called _ _ _ _ _
     c.refused.ensures c.earlier_number-number.ensures c.answer_number.ensures
     (c.answer_number-then-not-is_done.ensures ∙ ap answer_number_of (c.clock_answer-b.ensures ∙ clock_answered x.e.modem x.c.second x.write.now (length x.out.now)))
-    (ap (λ (y : Changed). y.called) c.clock_held-r.ensures) (sym c.is_done.ensures ∙ not-true _ c.if-not-is_done.true)
+    (ap (λ (y : Changed). y.called) c.clock_held-r.ensures) (sym c.is_done.ensures ∙ c.if-not-is_done.true)
 
 pub returns : goal.returns
-returns c = clock_both c.args.e c.args.c.second c.args.octets.now c.args.write.now (length c.args.out.now) c.clock_held-r.result.called c.clock_held-r.result.records _ _ _ c.clock_modem.ensures.0 c.clock_modem.ensures.1 (ap (λ (y : Changed). y.called) c.clock_held-r.ensures) (ap (λ (y : Changed). y.records) c.clock_held-r.ensures) (sym c.is_done.ensures ∙ not-false _ c.if-not-is_done.false)
+returns c = clock_both c.args.e c.args.c.second c.args.octets.now c.args.write.now (length c.args.out.now) c.clock_held-r.result.called c.clock_held-r.result.records _ _ _ c.clock_modem.ensures.0 c.clock_modem.ensures.1 (ap (λ (y : Changed). y.called) c.clock_held-r.ensures) (ap (λ (y : Changed). y.records) c.clock_held-r.ensures) (sym c.is_done.ensures ∙ c.if-not-is_done.false)

@@ -1,11 +1,7 @@
 -- `modem_authorization::authorization::Authorization::identifier_after` meets its contract.
 use Rattle.modem_authorization.specs.Authorization.{auth_identifier}
 use mathlib.Core.Path.{sym, ◌∙◌}
-use Rattle.modem_authorization.proofs.authorization.Authorization.identifier_after.Statement.{
-  statement,
 use Rattle.modem_authorization.proofs.authorization.Authorization.identifier_after.Goals as goal
-
-}
 
 pub returns-then-is_new : goal.returns-then-is_new
 unfolding auth_identifier
