@@ -3,6 +3,5 @@ use Rattle.cipher_cbc.proofs.SliceLaws.{loaded}
 use Rattle.cipher_cbc.proofs.block.load.Goals as goal
 
 pub returns : goal.returns
-returns c = let start = c in
-    loaded _ start.args.s.now start.args.at c.load_word.ensures c.load_word-2.ensures
+returns c = loaded _ c.args.s.now c.args.at c.load_word.ensures c.load_word-2.ensures
     c.load_word-3.ensures c.load_word-4.ensures

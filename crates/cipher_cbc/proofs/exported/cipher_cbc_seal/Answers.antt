@@ -5,11 +5,13 @@ use mathlib.Core.Path.{sym, ◌∙◌}
 use Rattle.cipher_cbc.proofs.exported.cipher_cbc_seal.Goals as goal
 
 pub seal_frame-requires : goal.seal_frame-requires
-seal_frame-requires c = fits _ _ _ _ (sym c.refused-no.ensures ∙ c.if-no-eq-DONE.true)
+seal_frame-requires c =
+    let f = fits _ _ _ _ (sym c.refused-no.ensures ∙ c.if-no-eq-DONE.true) in
+    record { key_len = f.0; vector_len = f.1.0; in_bounds = f.1.1.0; frame_in_bounds = f.1.1.1 }
 
-pub returns-then-no-eq-DONE : goal.returns-then-no-eq-DONE
+pub returns-then-no-eq-DONE-clause-out_after : goal.returns-then-no-eq-DONE-clause-out_after
 unfolding written
-returns-then-no-eq-DONE c = (c.refused-no.ensures, rw c.if-no-eq-DONE.true c.seal_frame.ensures)
+returns-then-no-eq-DONE-clause-out_after c = rw c.if-no-eq-DONE.true c.seal_frame.ensures
 
-pub returns-else-no-eq-DONE : goal.returns-else-no-eq-DONE
-returns-else-no-eq-DONE c = (c.refused-no.ensures, kept c.refused-no.result _ _ _ _ _ c.if-no-eq-DONE.false)
+pub returns-else-no-eq-DONE-clause-out_after : goal.returns-else-no-eq-DONE-clause-out_after
+returns-else-no-eq-DONE-clause-out_after c = kept c.refused-no.result _ _ _ _ _ c.if-no-eq-DONE.false

@@ -4,11 +4,7 @@ use lib.ListN.{length, drop}
 use Rattle.cipher_cbc.proofs.frame.seal_frame.Goals as goal
 
 pub returns : goal.returns
-returns c = let start = c in
-    let at_load = c in
-    let at-load2 = c in
-    let at-expand = c in
-    seal_loaded start.args.key.now start.args.vector.now at-expand.expand-w.result at_load.load-k.result at-load2.load-v.result
-    start.requires.key_len start.requires.vector_len.0
-    at_load.load-k.ensures at-load2.load-v.ensures at-expand.expand-w.ensures start.args.frame.now _ (drop (length start.args.frame.now) start.args.out.now)
+returns c = seal_loaded c.args.key.now c.args.vector.now c.expand-w.result c.load-k.result c.load-v.result
+    c.requires.key_len c.requires.vector_len
+    c.load-k.ensures c.load-v.ensures c.expand-w.ensures c.args.frame.now _ (drop (length c.args.frame.now) c.args.out.now)
     c.seal_with.ensures
