@@ -9,7 +9,7 @@ use Rattle.frame_octets.proofs.framed.frame_answer.Goals as goal
 
 in_order : (q1 q2 q15 q10 : Bool) (later a10 a15 a2 a : Answer) → a10 ≡ cond q10 later (Refused UnknownSaid) → a15 ≡ cond q15 a10 (Refused ShortFrame)
     → a2 ≡ cond q2 a15 (Refused WrongLength) → a ≡ cond q1 a2 (Refused OutOfLimits) → a ≡ frame_asked_of q1 q2 q15 q10 later
-    in_order q1 q2 q15 q10 later a10 a15 a2 a h10 h15 h2 h1 = rw (h1, h2, h15, h10) refl
+in_order q1 q2 q15 q10 later a10 a15 a2 a h10 h15 h2 h1 = rw (h1, h2, h15, h10) refl
 
 pub returns : goal.returns
 returns c = let q = c.args in
