@@ -1,5 +1,5 @@
 -- `put_decimal` meets its contract. The invariant: the digits of what is left, stored over what is there, make the whole.
-use Prim.Native.Nat.{◌+◌, ◌-◌, ◌≤◌}
+use Prim.Native.Nat.{◌+◌, ◌≤◌}
 use mathlib.Core.Path.{◌≡◌}
 use lib.Seq.{sets}
 use lib.ListN.{length}

@@ -1,6 +1,5 @@
 -- `all_hex` meets its contract. The invariant: what is left decides.
 use mathlib.Core.Path.{refl, sym, ◌∙◌}
-use Prim.Native.Nat.{◌-◌}
 use native.Mathlib.Omega.{arith}
 use Rattle.text.proofs.HexLaws.{hex_end, hex_here, hex_not}
 use Rattle.text.proofs.hex.all_hex.Goals as goal

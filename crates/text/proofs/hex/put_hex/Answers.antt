@@ -1,6 +1,6 @@
 -- `put_hex` meets its contract. The invariant: the digits of so many octets are stored.
 use mathlib.Core.Path.{◌≡◌, refl, ap, ◌∙◌}
-use Prim.Native.Nat.{ℕ, ◌-◌}
+use Prim.Native.Nat.{ℕ}
 use native.Mathlib.Omega.{arith}
 use lib.ListN.{length, take, length-set}
 use lib.Seq.{lt-length-set, sets, take-length}
@@ -13,7 +13,7 @@ unfolding hex_of
 loop-i-init c = (omega arith, (omega arith, (refl, refl)))
 
 pub hex_digit-requires : goal.hex_digit-requires
-hex_digit-requires c = omega (arith, c.shared_slice_known-in-loop-i-1.given c.loop-i.i)
+hex_digit-requires c = omega arith
 
 pub bounds-out-place-in-loop-i : goal.bounds-out-place-in-loop-i
 bounds-out-place-in-loop-i c = let l = c.loop-i in
@@ -32,4 +32,4 @@ shape_of-out c = c.loop-i.invariant.1.1.0
 pub returns : goal.returns
 returns c = let l = c.loop-i in
     let a = c.args in
-    let all : l.i ≡ length a.v.now = omega arith in  record { put = record { after = omega (arith, hex_length a.v.now); stored = l.invariant.1.1.1 ∙ ap (λ (k : ℕ). sets a.out.now a.at (hex_of (take k a.v.now))) all ∙ ap (λ l. sets a.out.now a.at (hex_of l)) (take-length a.v.now) }; value = omega arith }
+    let all : l.i ≡ length a.v.now = omega arith in record { put = record { after = omega (arith, hex_length a.v.now); stored = l.invariant.1.1.1 ∙ ap (λ (k : ℕ). sets a.out.now a.at (hex_of (take k a.v.now))) all ∙ ap (λ l. sets a.out.now a.at (hex_of l)) (take-length a.v.now) }; value = omega arith }
