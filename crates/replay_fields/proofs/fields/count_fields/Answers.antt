@@ -1,6 +1,6 @@
 -- `count_fields` meets its contract. The invariant: the fields counted and those left are all.
 use mathlib.Core.Path.{◌≡◌, ap}
-use Prim.Native.Nat.{◌+◌, ◌-◌}
+use Prim.Native.Nat.{◌+◌}
 use native.Mathlib.Omega.{arith}
 use lib.ListN.{length}
 use Rattle.replay_fields.specs.declared.fields.Field.{Field}

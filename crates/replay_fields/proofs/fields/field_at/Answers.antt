@@ -1,5 +1,4 @@
 -- `field_at` meets its contract. The invariant: the octets passed and the field from here are the field.
-use Prim.Native.Nat.{◌-◌}
 use native.Mathlib.Omega.{arith}
 use Rattle.replay_fields.proofs.FieldLaws.{first_end, first_comma, first_other, field_past, field_here, found}
 use Rattle.replay_fields.proofs.fields.field_at.Goals as goal

@@ -5,5 +5,5 @@ use Rattle.replay_fields.proofs.fields.flag_of.Goals as goal
 
 pub returns : goal.returns
 returns c = let a = c.args in
-    let number_of_lem = c.number_of_lem in
-    flag_is (text_of a.line.now a.f) number_of_lem.result number_of_lem.ensures
+    let number = c.number_of-n in
+    flag_is (text_of a.line.now a.f) number.result number.ensures

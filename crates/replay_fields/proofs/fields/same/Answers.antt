@@ -1,6 +1,5 @@
 -- `same` meets its contract. The invariant: what is left decides.
 use mathlib.Core.Path.{refl, sym, ◌∙◌}
-use Prim.Native.Nat.{◌-◌}
 use native.Mathlib.Omega.{arith}
 use Rattle.replay_fields.proofs.SameLaws.{same_lengths, same_end, same_here, same_not}
 use Rattle.replay_fields.proofs.fields.same.Goals as goal
