@@ -4,10 +4,10 @@ use Rattle.replay_read.proofs.frame.read_seal_up_frame.Goals as goal
 
 pub returns : goal.returns
 returns c = let a = c.args in
-    let number_of_lem = c.number_of_lem in
+    let number = c.number_of-said in
     let octets-of = c.octets_of-octets in
     let to-u16 = c.to_u16 in
     let plain-call = c.plain_call-call in
     let no_place = c.no_place-none in
     let kept = c.kept in
-    seal_up_frame_reads a.line.now a.c c.requires number_of_lem.result octets-of.result to-u16.result plain-call.result no_place.result kept.result number_of_lem.ensures octets-of.ensures to-u16.ensures plain-call.ensures no_place.ensures kept.ensures
+    seal_up_frame_reads a.line.now a.c c.requires number.result octets-of.result to-u16.result plain-call.result no_place.result kept.result number.ensures octets-of.ensures to-u16.ensures plain-call.ensures no_place.ensures kept.ensures

@@ -10,15 +10,15 @@ returns-then-same c = simp (sym c.same.ensures ∙ c.if-same.true) c.known.ensur
 pub returns-then-same-2 : goal.returns-then-same-2
 unfolding carried_named_of
 returns-then-same-2 c = simp (
-      sym c.same.ensures ∙ c.if-same.false,
-      sym c.same-2.ensures ∙ c.if-same-2.true,
-    )
+  sym c.same.ensures ∙ c.if-same.false,
+  sym c.same-2.ensures ∙ c.if-same-2.true,
+)
     c.known-then-same-2.ensures
 
 pub returns : goal.returns
 unfolding carried_named_of
 returns c = simp (
-      sym c.same.ensures ∙ c.if-same.false,
-      sym c.same-2.ensures ∙ c.if-same-2.false,
-    )
+  sym c.same.ensures ∙ c.if-same.false,
+  sym c.same-2.ensures ∙ c.if-same-2.false,
+)
     c.frame_named.ensures

@@ -10,8 +10,8 @@ pub returns : goal.returns
 returns c = let count-fields = c.count_fields-count in
     let field_at = c.field_at-a in
     let field-at2 = c.field_at-b in
-    let number_of_lem = c.number_of_lem in
+    let number = c.number_of-address in
     let number-of2 = c.number_of-said in
     let to-u16 = c.to_u16 in
     let modem-kept2 = c.modem_kept-2 in
-    modem_is c.args.line.now count-fields.result field_at.result field-at2.result number_of_lem.result number-of2.result to-u16.result modem-kept2.result (omega (arith, c.if-line-gt-LINE_MAX.false)) count-fields.ensures field_at.ensures.0 number_of_lem.ensures field-at2.ensures.0 number-of2.ensures to-u16.ensures modem-kept2.ensures
+    modem_is c.args.line.now count-fields.result field_at.result field-at2.result number.result number-of2.result to-u16.result modem-kept2.result (omega (arith, c.if-line-gt-LINE_MAX.false)) count-fields.ensures field_at.ensures.0 number.ensures field-at2.ensures.0 number-of2.ensures to-u16.ensures modem-kept2.ensures
