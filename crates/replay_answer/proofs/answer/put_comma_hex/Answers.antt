@@ -8,4 +8,4 @@ pub returns : goal.returns
 unfolding comma_hex
 returns c = let put-octet = c.put_octet-a in
     let put-hex = c.put_hex in
-     record { put = then_put put-octet.ensures.put put-hex.ensures.put; value = omega (arith, put-octet.ensures.value, put-hex.ensures.value) }
+    record { put = then_put put-octet.ensures.put put-hex.ensures.put; value = omega (arith, put-octet.ensures.value, put-hex.ensures.value) }

@@ -12,4 +12,4 @@ returns c = let put-text = c.put_text-a in
     let put-number2 = c.put_number-c in
     let put-number3 = c.put_number-d in
     let put-number4 = c.put_number in
-    let p = line_put (then_put (then_put (then_put (then_put put-text.ensures put-number.ensures.put) put-number2.ensures.put) put-number3.ensures.put) put-number4.ensures.put) (omega (arith, put-text.ensures.after, put-number.ensures.upper_bound, put-number2.ensures.upper_bound, put-number3.ensures.upper_bound, put-number4.ensures.upper_bound, c.requires)) in (p.0, (p.1, omega (arith, put-text.ensures.after, put-number.ensures.upper_bound, put-number2.ensures.upper_bound, put-number3.ensures.upper_bound, put-number4.ensures.upper_bound)))
+    let p = line_put (then_put (then_put (then_put (then_put put-text.ensures put-number.ensures.put) put-number2.ensures.put) put-number3.ensures.put) put-number4.ensures.put) (omega (arith, put-text.ensures.after, put-number.ensures.upper_bound, put-number2.ensures.upper_bound, put-number3.ensures.upper_bound, put-number4.ensures.upper_bound, c.requires)) in record { out_after = p.0; value = p.1; upper_bound = omega (arith, put-text.ensures.after, put-number.ensures.upper_bound, put-number2.ensures.upper_bound, put-number3.ensures.upper_bound, put-number4.ensures.upper_bound) }

@@ -6,8 +6,8 @@ use Rattle.replay_answer.proofs.answer.put_keys_if.Goals as goal
 
 pub returns-then-not-on : goal.returns-then-not-on
 returns-then-not-on c = let a = c.args in
-    (if_off a.out.now a.at (keys_text a.tek.now a.vector.now) a.on (c.if-not-on.true), omega arith)
+    record { put = if_off a.out.now a.at (keys_text a.tek.now a.vector.now) a.on c.if-not-on.true; upper_bound = omega arith }
 
 pub returns : goal.returns
 returns c = let put-keys = c.put_keys in
-     record { put = if_on c.args.on (c.if-not-on.false) put-keys.ensures.put; upper_bound = omega (arith, put-keys.ensures.upper_bound) }
+    record { put = if_on c.args.on c.if-not-on.false put-keys.ensures.put; upper_bound = omega (arith, put-keys.ensures.upper_bound) }
