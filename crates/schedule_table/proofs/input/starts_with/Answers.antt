@@ -1,5 +1,4 @@
 -- `starts_with` meets its contract. The invariant: what is left to compare decides.
-use Prim.Native.Nat.{◌-◌}
 use mathlib.Core.Path.{◌≡◌, refl, sym, ◌∙◌}
 use native.Mathlib.Omega.{arith}
 use lib.Seq.{get_or-take, length-take-le}

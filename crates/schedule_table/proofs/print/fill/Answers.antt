@@ -14,14 +14,14 @@ use Rattle.schedule_table.proofs.print.fill.Goals as goal
 
 -- what the loop's test tells, whatever numbers it compares with
 calls-left : (k n : ℕ) (b : Bool) → (leb k n && b) ≡ true → k ≤ n
-    calls-left k n b e = leb-true k n (both (leb k n) b e).0
+calls-left k n b e = leb-true k n (both (leb k n) b e).0
 
 room : (b : Bool) (k n : ℕ) → (b && leb k n) ≡ true → k ≤ n
-    room b k n e = leb-true k n (both b (leb k n) e).1
+room b k n e = leb-true k n (both b (leb k n) e).1
 
 less : (c n : Cursor) → 1 ≤ c.left → n ≡ next_of c → n.left < c.left
-    unfolding next_of
-    less c n more e = omega (arith, ap (λ (k : Cursor). k.left) e)
+unfolding next_of
+less c n more e = omega (arith, ap (λ (k : Cursor). k.left) e)
 
 pub loop-cursor-init : goal.loop-cursor-init
 loop-cursor-init c = filling_first c.args.out.now c.args.c c.requires
@@ -60,4 +60,4 @@ returns c = let d = c.args.out.now in
     let ended : (leb 1 l.cursor.left && leb 84 (length l.out - l.at)) ≡ false = c.loop-cursor-test.false in
     let count = filled_count d c₀ l.out l.cursor l.at l.invariant ended in
     let cursor = filled_cursor d c₀ l.out l.cursor l.at l.invariant ended in
-    (cc, (filled_stored d c₀ l.out l.cursor l.at l.invariant ended, (l.invariant.inside, l.invariant.steady)))
+    record { value = cc; out_after = filled_stored d c₀ l.out l.cursor l.at l.invariant ended; count_in_bounds = (l.invariant.inside, l.invariant.steady) }

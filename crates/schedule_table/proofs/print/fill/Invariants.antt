@@ -1,5 +1,4 @@
 -- `fill` meets its contract. The invariant is `Filling`; the measure is the number of clock calls left.
-use Prim.Native.Nat.{◌-◌}
 use Rattle.schedule_table.proofs.CursorLaws.{Filling}
 use Rattle.schedule_table.proofs.print.fill.Given as goal
 

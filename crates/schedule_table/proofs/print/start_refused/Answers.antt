@@ -1,6 +1,6 @@
 -- `start_refused` meets its contract.
 use mathlib.Core.Path.{refl, ap}
-use mathlib.Core.List.{◌∷◌}
+use mathlib.Core.List.{[], ◌∷◌}
 use native.Mathlib.Omega.{arith}
 use lib.ListN.{length-set}
 use Rattle.questions.specs.Settings.{life_fits_of}
@@ -17,4 +17,4 @@ unfolding asked_fits_of life_fits_of
 first_cursor-cursor-requires c = refl
 
 pub returns : goal.returns
-returns c =  record { value = ap (λ (k : Cursor). record { count = 2; cursor = k }) c.first_cursor-cursor.ensures; out_after = sets_front c.args.out.now (49 ∷ 10 ∷ []) (omega arith) }
+returns c = record { value = ap (λ (k : Cursor). record { count = 2; cursor = k }) c.first_cursor-cursor.ensures; out_after = sets_front c.args.out.now (49 ∷ 10 ∷ []) (omega arith) }

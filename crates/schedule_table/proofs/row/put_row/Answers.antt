@@ -12,4 +12,4 @@ returns c = let a = c.args in
     let e₂ = c.put_field-b.ensures in
     let e₃ = c.put_field-c.ensures in
     let e₄ = c.put_field.ensures in
-    let fourth : number_text a.deadline 10 ≡ number_text a.deadline 10 = refl in  record { put = put_as (row_fields a.generation a.number a.minted a.deadline) (then_put (then_put (then_put e₁.0 e₂.0) e₃.0) (put_as fourth e₄.0)); upper_bound = omega (arith, e₁.1, e₂.1, e₃.1, e₄.1) }
+    let fourth : number_text a.deadline 10 ≡ number_text a.deadline 10 = refl in record { put = put_as (row_fields a.generation a.number a.minted a.deadline) (then_put (then_put (then_put e₁.put e₂.put) e₃.put) (put_as fourth e₄.put)); upper_bound = omega (arith, e₁.upper_bound, e₂.upper_bound, e₃.upper_bound, e₄.upper_bound) }
