@@ -8,7 +8,7 @@ pub record Sends (text : List ℕ) (r : Sent) : Type 0 where
   pub most : r.octets ≤ length text
   pub all : r.is_whole ≡ true → r.octets ≡ length text
 
--- The text of some input of at most 128 octets: which one standard input holds, the C library's `read` does not say
+-- The text of some input of at most 128 octets: which one standard input holds, a read does not say
 pub record SendsSome (r : Sent) : Type 0 where
   pub input : List ℕ
   pub short : length input ≤ 128

@@ -1,0 +1,2 @@
+-- Laws of what is handed to the output.
+pub mod HandedLaws
