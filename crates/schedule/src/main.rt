@@ -2,6 +2,6 @@
 
 #![tactic(auto)]
 
-fn main() {
-    schedule_io::run();
+fn main(rt: HostRuntime) {
+    schedule_io::run(rt.stdin(), &rt.stdout());
 }

@@ -3,50 +3,52 @@
 #![tactic(auto)]
 
 use schedule_io::print;
+use std::io::Stdout;
 
 // The numbers are out of their limits.
-fn out_of_limits() {
-    print(b"life,from,until\n1801,0,1800\n");
-    print(b"life,from,until\n1798,0,1800\n");
-    print(b"life,from,until\n604802,0,1800\n");
-    print(b"life,from,until\n1800,1801,1800\n");
-    print(b"life,from,until\n1800,0,1000000000001\n");
-    print(b"life,from,until\n1800,0,18446744073709551616\n");
+fn out_of_limits(to: &Stdout) {
+    print(to, b"life,from,until\n1801,0,1800\n");
+    print(to, b"life,from,until\n1798,0,1800\n");
+    print(to, b"life,from,until\n604802,0,1800\n");
+    print(to, b"life,from,until\n1800,1801,1800\n");
+    print(to, b"life,from,until\n1800,0,1000000000001\n");
+    print(to, b"life,from,until\n1800,0,18446744073709551616\n");
 }
 
 // A field is no number.
-fn no_number() {
-    print(b"life,from,until\n1800,x,1800\n");
-    print(b"life,from,until\n1800,,1800\n");
-    print(b"life,from,until\n1800, 0,1800\n");
-    print(b"life,from,until\n1800,+0,1800\n");
-    print(b"life,from,until\n1800,0,000000000000000001800\n");
+fn no_number(to: &Stdout) {
+    print(to, b"life,from,until\n1800,x,1800\n");
+    print(to, b"life,from,until\n1800,,1800\n");
+    print(to, b"life,from,until\n1800, 0,1800\n");
+    print(to, b"life,from,until\n1800,+0,1800\n");
+    print(to, b"life,from,until\n1800,0,000000000000000001800\n");
 }
 
 // The lines are not a line of the names and one of three values.
-fn other_lines() {
-    print(b"");
-    print(b"life,from,until");
-    print(b"life,from,until\n");
-    print(b"life,until,from\n1800,0,1800\n");
-    print(b"life,from,until\r\n1800,0,1800\r\n");
-    print(b"life,from,until\n1800,0,1800\r\n");
-    print(b"life,from,until\n1800,0\n");
-    print(b"life,from,until\n1800,0,1800,\n");
-    print(b"life,from,until\n1800,0,1800\n1800,0,1800\n");
-    print(b"life,from,until\n1800,0,1800\n\n");
+fn other_lines(to: &Stdout) {
+    print(to, b"");
+    print(to, b"life,from,until");
+    print(to, b"life,from,until\n");
+    print(to, b"life,until,from\n1800,0,1800\n");
+    print(to, b"life,from,until\r\n1800,0,1800\r\n");
+    print(to, b"life,from,until\n1800,0,1800\r\n");
+    print(to, b"life,from,until\n1800,0\n");
+    print(to, b"life,from,until\n1800,0,1800,\n");
+    print(to, b"life,from,until\n1800,0,1800\n1800,0,1800\n");
+    print(to, b"life,from,until\n1800,0,1800\n\n");
 }
 
 // The last line end is missing; zeros stand before the numbers, in 20 digits; the longest life, at the last second.
-fn accepted() {
-    print(b"life,from,until\n1800,0,1800");
-    print(b"life,from,until\n001800,00,00000000000000001800\n");
-    print(b"life,from,until\n604800,1000000000000,1000000000000\n");
+fn accepted(to: &Stdout) {
+    print(to, b"life,from,until\n1800,0,1800");
+    print(to, b"life,from,until\n001800,00,00000000000000001800\n");
+    print(to, b"life,from,until\n604800,1000000000000,1000000000000\n");
 }
 
-fn main() {
-    out_of_limits();
-    no_number();
-    other_lines();
-    accepted();
+fn main(rt: HostRuntime) {
+    let to = rt.stdout();
+    out_of_limits(&to);
+    no_number(&to);
+    other_lines(&to);
+    accepted(&to);
 }
