@@ -14,7 +14,7 @@ use cipher_aes::sizes::{BLOCK_OCTETS, ROUNDS};
 use cipher_aes::words::{State, key_at};
 use cipher_cbc::block::{load, store};
 use cipher_cbc::exported::{DONE, cipher_cbc_open, cipher_cbc_seal};
-use libc::STDOUT_FILENO;
+use std::io::{Print, Stdout};
 
 // More octets than any frame here has.
 const ROOM: usize = 64;
@@ -26,25 +26,26 @@ fn digit(n: u8) -> u8
     if n < 10 { n + b'0' } else { n - 10 + b'a' }
 }
 
-fn print(text: &[u8]) {
-    io::write_all(STDOUT_FILENO, text);
+// That writing fails is not looked at.
+fn print(to: &Stdout, text: &[u8]) {
+    let _ = to.write_all(text);
 }
 
-fn print_octet(x: u8) {
+fn print_octet(to: &Stdout, x: u8) {
     let d = [digit(x / 16), digit(x % 16)];
-    print(&d);
+    print(to, &d);
 }
 
-fn print_octets(s: &[u8]) {
+fn print_octets(to: &Stdout, s: &[u8]) {
     let mut i = 0;
     while i < s.len() {
-        print_octet(s[i]);
+        print_octet(to, s[i]);
         i += 1;
     }
 }
 
 // Seals a frame, shows it, and says whether it is `printed` and whether opening gives the frame back.
-fn show_frame(name: &[u8], key: &[u8], vector: &[u8], frame: &[u8], printed: &[u8]) {
+fn show_frame(to: &Stdout, name: &[u8], key: &[u8], vector: &[u8], frame: &[u8], printed: &[u8]) {
     let mut out = [0u8; ROOM];
     let mut back = [0u8; ROOM];
     let n = frame.len();
@@ -53,23 +54,23 @@ fn show_frame(name: &[u8], key: &[u8], vector: &[u8], frame: &[u8], printed: &[u
     }
     let sealed = cipher_cbc_seal(key, vector, frame, &mut out);
     let opened = cipher_cbc_open(key, vector, &out[..n], &mut back);
-    print(name);
-    print(b": ");
-    print_octets(&out[..n]);
+    print(to, name);
+    print(to, b": ");
+    print_octets(to, &out[..n]);
     if (sealed == DONE) & same(&out[..n], printed) {
-        print(b" as printed");
+        print(to, b" as printed");
     } else {
-        print(b" DIFFERS");
+        print(to, b" DIFFERS");
     }
     if (opened == DONE) & same(&back[..n], frame) {
-        print(b", opened\n");
+        print(to, b", opened\n");
     } else {
-        print(b", NOT OPENED\n");
+        print(to, b", NOT OPENED\n");
     }
 }
 
 // The last round key of FIPS 197, A.1.
-fn show_last_key() {
+fn show_last_key(to: &Stdout) {
     let e = encryption_table();
     let key = State {
         a: 0x2b7e1516,
@@ -80,20 +81,21 @@ fn show_last_key() {
     let w = expand(&e, key);
     let mut out = [0u8; BLOCK_OCTETS];
     store(&mut out, 0, key_at(&w, ROUNDS));
-    print(b"FIPS 197 A.1: ");
-    print_octets(&out);
+    print(to, b"FIPS 197 A.1: ");
+    print_octets(to, &out);
     if same(
         &out,
         b"\xd0\x14\xf9\xa8\xc9\xee\x25\x89\xe1\x3f\x0c\xc8\xb6\x63\x0c\xa6",
     ) {
-        print(b" as printed\n");
+        print(to, b" as printed\n");
     } else {
-        print(b" DIFFERS\n");
+        print(to, b" DIFFERS\n");
     }
 }
 
 // A whole block of CFB: `plain` added to the forward cipher of the vector. Of n octets padded with zeros, the first n are their residual block (11.1).
 fn residual_row(
+    to: &Stdout,
     name: &[u8],
     key: &[u8; BLOCK_OCTETS],
     vector: &[u8; BLOCK_OCTETS],
@@ -108,20 +110,21 @@ fn residual_row(
         0,
         add_round_key(load(plain, 0), encrypt(&e, &w, load(vector, 0))),
     );
-    print(name);
-    print(b": ");
-    print_octets(&out);
+    print(to, name);
+    print(to, b": ");
+    print_octets(to, &out);
     if same(&out, printed) {
-        print(b" as printed\n");
+        print(to, b" as printed\n");
     } else {
-        print(b" DIFFERS\n");
+        print(to, b" DIFFERS\n");
     }
 }
 
 // One block under a vector of zeros is the cipher alone: FIPS 197, B and C.1.
-fn standard_blocks() {
+fn standard_blocks(to: &Stdout) {
     let zeros = [0u8; BLOCK_OCTETS];
     show_frame(
+        to,
         b"FIPS 197 B",
         b"\x2b\x7e\x15\x16\x28\xae\xd2\xa6\xab\xf7\x15\x88\x09\xcf\x4f\x3c",
         &zeros,
@@ -129,6 +132,7 @@ fn standard_blocks() {
         b"\x01\x02\x03\x04\x05\x06\xf1\xf2\xf3\xf4\xf5\xf6\x39\x25\x84\x1d\x02\xdc\x09\xfb\xdc\x11\x85\x97\x19\x6a\x0b\x32",
     );
     show_frame(
+        to,
         b"FIPS 197 C.1",
         b"\x00\x01\x02\x03\x04\x05\x06\x07\x08\x09\x0a\x0b\x0c\x0d\x0e\x0f",
         &zeros,
@@ -138,10 +142,11 @@ fn standard_blocks() {
 }
 
 // The block of I.10.1, and 15 octets of the CFB block of I.10.2: a frame with less than a block behind its addresses takes the forward cipher of the vector.
-fn printed_blocks() {
+fn printed_blocks(to: &Stdout) {
     let key = b"\x01\x23\x45\x67\x89\xab\xcd\xef\x01\x23\x45\x67\x89\xab\xcd\xef";
     let vector = b"\x12\x34\x56\x78\x90\xab\xcd\xef\x12\x34\x56\x78\x90\xab\xcd\xef";
     show_frame(
+        to,
         b"I.10.1 block",
         key,
         vector,
@@ -149,6 +154,7 @@ fn printed_blocks() {
         b"\x01\x02\x03\x04\x05\x06\xf1\xf2\xf3\xf4\xf5\xf6\x7d\x51\xac\xd5\xb3\x79\xac\x2f\x8f\x46\xf3\x1c\xaf\xd7\x91\xb4",
     );
     show_frame(
+        to,
         b"I.10.2 15 octets",
         key,
         vector,
@@ -158,10 +164,11 @@ fn printed_blocks() {
 }
 
 // The frames of I.10.1 to I.10.3, and one that is its addresses alone.
-fn printed_frames() {
+fn printed_frames(to: &Stdout) {
     let key = b"\xe6\x60\x0f\xd8\x85\x2e\xf5\xab\xe6\x60\x0f\xd8\x85\x2e\xf5\xab";
     let vector = b"\x81\x0e\x52\x8e\x1c\x5f\xda\x1a\x81\x0e\x52\x8e\x1c\x5f\xda\x1a";
     show_frame(
+        to,
         b"I.10.1 PDU",
         key,
         vector,
@@ -169,6 +176,7 @@ fn printed_frames() {
         b"\x01\x02\x03\x04\x05\x06\xf1\xf2\xf3\xf4\xf5\xf6\x5a\x79\xba\xca\x6a\x2d\x38\x99\x11\x76\xe3\x11\x9f\xf1\x19\xc7",
     );
     show_frame(
+        to,
         b"I.10.2 PDU",
         key,
         vector,
@@ -176,6 +184,7 @@ fn printed_frames() {
         b"\x01\x02\x03\x04\x05\x06\xf1\xf2\xf3\xf4\xf5\xf6\x9d\xd1\x67\x4b\xba\x61\x10\x1b\x56\x75\x64\x74\x36\x4f\x10\x1d\x44\xd4\x73",
     );
     show_frame(
+        to,
         b"I.10.3 PDU",
         key,
         vector,
@@ -183,6 +192,7 @@ fn printed_frames() {
         b"\x01\x02\x03\x04\x05\x06\xf1\xf2\xf3\xf4\xf5\xf6\xfc\x68\xa3\x55\x60\x37\xdc",
     );
     show_frame(
+        to,
         b"12 octets",
         key,
         vector,
@@ -192,9 +202,10 @@ fn printed_frames() {
 }
 
 // The whole blocks that I.10.2 and I.10.3 print: that of CFB, and the residual blocks of their frames, padded with zeros.
-fn printed_residuals() {
+fn printed_residuals(to: &Stdout) {
     let key = b"\xe6\x60\x0f\xd8\x85\x2e\xf5\xab\xe6\x60\x0f\xd8\x85\x2e\xf5\xab";
     residual_row(
+        to,
         b"I.10.2 CFB block",
         b"\x01\x23\x45\x67\x89\xab\xcd\xef\x01\x23\x45\x67\x89\xab\xcd\xef",
         b"\x12\x34\x56\x78\x90\xab\xcd\xef\x12\x34\x56\x78\x90\xab\xcd\xef",
@@ -202,6 +213,7 @@ fn printed_residuals() {
         b"\x43\xbc\x0a\xd0\xfc\x8d\x93\xff\x80\xe0\xbf\xf1\x41\xfc\x67\x08",
     );
     residual_row(
+        to,
         b"I.10.2 padded",
         key,
         b"\x9d\xd1\x67\x4b\xba\x61\x10\x1b\x56\x75\x64\x74\x36\x4f\x10\x1d",
@@ -209,6 +221,7 @@ fn printed_residuals() {
         b"\x44\xd4\x73\xdd\x83\x9c\xee\x46\x4c\xff\x83\xb7\x27\x96\xd6\x55",
     );
     residual_row(
+        to,
         b"I.10.3 padded",
         key,
         b"\x81\x0e\x52\x8e\x1c\x5f\xda\x1a\x81\x0e\x52\x8e\x1c\x5f\xda\x1a",
@@ -217,10 +230,11 @@ fn printed_residuals() {
     );
 }
 
-fn main() {
-    show_last_key();
-    standard_blocks();
-    printed_blocks();
-    printed_frames();
-    printed_residuals();
+fn main(rt: HostRuntime) {
+    let to = rt.stdout();
+    show_last_key(&to);
+    standard_blocks(&to);
+    printed_blocks(&to);
+    printed_frames(&to);
+    printed_residuals(&to);
 }
