@@ -1,15 +1,12 @@
 -- InvMixColumns undoes MixColumns: both are linear, and at a column with one octet a test over the octets decides.
-use mathlib.Core.Path.{◌≡◌, refl, sym, ap, ap₂, ◌∙◌}
-use mathlib.Core.List.{List, [], ◌∷◌, ◌++◌}
-use mathlib.Core.Bool.{Bool}
+use mathlib.Core.Path.{◌≡◌, ap₂, ◌∙◌}
+use mathlib.Core.List.{List, [], ◌∷◌}
 use Prim.Native.Nat.{ℕ, ◌<◌}
-use native.Mathlib.Omega.{arith}
 use lib.ListN.{get_or}
-use lib.Dec.{T}
 use Rattle.cipher_aes.specs.Field.{◌⊕◌, xors, by2, by3, by9, by11, by13, by14}
 use Rattle.cipher_aes.specs.Cipher.{mix_column, inv_mix_column}
 use Rattle.cipher_aes.proofs.XorLaws.{swap4, zero_l, zero_r}
-use Rattle.cipher_aes.proofs.TestLaws.{all, at, same, same→eq}
+use Rattle.cipher_aes.proofs.TestLaws.{at, same, same→eq}
 use Rattle.cipher_aes.proofs.FieldLaws.{linear9, linear11, linear13, linear14}
 
 -- a column of the list of its four octets

@@ -1,11 +1,10 @@
 -- The products with constants are linear, and keep octets octets.
-use mathlib.Core.Path.{◌≡◌, refl, sym, ap, ap₂, ◌∙◌}
+use mathlib.Core.Path.{◌≡◌, refl, ap, ap₂, ◌∙◌}
 use Prim.Native.Nat.{ℕ, ◌*◌, ◌/◌, ◌%◌, ◌<◌}
-use native.Mathlib.Omega.{arith}
 use lib.Dec.{ltb, ltb→lt}
 use Rattle.cipher_aes.specs.Field.{◌⊕◌, by2, by3, by9, by11, by13, by14, by4, by8}
-use Rattle.cipher_aes.proofs.XorLaws.{odd, comm, shr, low_digits, twice, scaled, swap, below}
-use Rattle.cipher_aes.proofs.TestLaws.{all, at}
+use Rattle.cipher_aes.proofs.XorLaws.{odd, shr, low_digits, twice, scaled, swap, below}
+use Rattle.cipher_aes.proofs.TestLaws.{at}
 
 pub linear2 : (x y : ℕ) → by2 (x ⊕ y) ≡ by2 x ⊕ by2 y
 unfolding by2

@@ -1,12 +1,11 @@
 -- Decrypting gives back what was encrypted, for every block and every key.
-use mathlib.Core.Path.{◌≡◌, refl, sym, ap, ap₂, ◌∙◌}
-use mathlib.Core.List.{List, [], ◌∷◌, ◌++◌}
-use Prim.Native.Nat.{ℕ, zero, suc, ◌+◌, ◌<◌, ◌≤◌}
+use mathlib.Core.Path.{◌≡◌, refl, ap, ◌∙◌}
+use mathlib.Core.List.{List}
+use Prim.Native.Nat.{ℕ, zero, suc}
 use native.Mathlib.Omega.{arith}
-use lib.ListN.{length, get_or}
-use Rattle.cipher_aes.specs.Field.{xors, Octets, Block}
+use Rattle.cipher_aes.specs.Field.{xors, Block}
 use Rattle.cipher_aes.specs.Sbox.{sub_bytes, inv_sub_bytes}
-use Rattle.cipher_aes.specs.Cipher.{shift_rows, inv_shift_rows, mix_columns, inv_mix_columns, add_round_key_of, round, final_round_of, rounds, cipher, inv_round_of, inv_rounds, inv_final_of, inv_cipher}
+use Rattle.cipher_aes.specs.Cipher.{shift_rows, inv_shift_rows, inv_mix_columns, round, final_round_of, rounds, cipher, inv_round_of, inv_rounds, inv_final_of, inv_cipher}
 use Rattle.cipher_aes.proofs.StepLaws.{sub_block, sub_undone, shift_block, shift_undone, mix_block, mix_undone, xor_block, xor_undone}
 
 -- the round keys are blocks

@@ -5,7 +5,7 @@ use lib.Dec.{eqb, eqb→eq}
 use Rattle.cipher_aes.specs.Field.{◌⊕◌, by2}
 use Rattle.cipher_aes.specs.Sbox.{sbox, sub}
 use Rattle.cipher_aes.specs.SboxRule.{inverse, affine}
-use Rattle.cipher_aes.proofs.TestLaws.{all, at}
+use Rattle.cipher_aes.proofs.TestLaws.{at}
 
 pub sub_rule : (x : ℕ) → x < 256 → sub x ≡ affine (inverse x)
 unfolding ◌⊕◌ by2 sbox sub

@@ -1,20 +1,20 @@
 -- The key schedule: the next round key from its words, and a round key stored in the array of words.
-use mathlib.Core.Path.{◌≡◌, refl, sym, ap, ap₂, subst, ◌∙◌}
+use mathlib.Core.Path.{◌≡◌, ap, ap₂, subst, ◌∙◌}
 use mathlib.Core.Bool.{Bool, true, false}
 use mathlib.Core.List.{List, [], ◌∷◌, ◌++◌}
-use mathlib.Core.Logic.{◌⊎◌, inl, inr, ⊎_elim}
-use Prim.Native.Nat.{ℕ, zero, suc, ◌+◌, ◌*◌, ◌<◌, ◌≤◌}
+use mathlib.Core.Logic.{◌⊎◌, inl, ⊎_elim}
+use Prim.Native.Nat.{ℕ, ◌+◌, ◌*◌, ◌<◌, ◌≤◌}
 use native.Mathlib.Omega.{arith}
-use lib.Dec.{ltb, ltb→lt}
-use lib.ListN.{length, get_or, set, length-set, take, drop}
+use lib.Dec.{ltb}
+use lib.ListN.{length, get_or, set, length-set}
 use lib.Seq.{get_or-set_same, get_or-set_other}
-use Rattle.cipher_aes.specs.Field.{xors, Octets}
+use Rattle.cipher_aes.specs.Field.{xors}
 use Rattle.cipher_aes.specs.Sbox.{sub}
-use Rattle.cipher_aes.specs.Keys.{rcon, substituted_rotated_of, chained, next_key_of, round_key}
+use Rattle.cipher_aes.specs.Keys.{substituted_rotated_of, chained}
 use Rattle.cipher_aes.specs.Words.{word, state, key_at}
 use Rattle.cipher_aes.specs.declared.words.State.{State}
 use Rattle.cipher_aes.proofs.StepLaws.{join}
-use Rattle.cipher_aes.proofs.TestLaws.{at, IfLt, if_lt}
+use Rattle.cipher_aes.proofs.TestLaws.{IfLt, if_lt}
 use Rattle.cipher_aes.proofs.WordLaws.{o0, o1, o2, o3}
 
 -- the next round key from its words

@@ -6,11 +6,11 @@ use native.Mathlib.Omega.{arith}
 use lib.Dec.{eqb, ltb, ltb→lt, eqb→eq}
 use lib.ListN.{length, get_or, drop, drop_of_length-le}
 use lib.Seq.{drop-cons}
-use Rattle.cipher_aes.specs.Field.{◌⊕◌, xors, by2, by3, Octets, Block}
+use Rattle.cipher_aes.specs.Field.{xors, Octets, Block}
 use Rattle.cipher_aes.specs.Sbox.{sbox, inv_sbox, sub, inv_sub, sub_bytes, inv_sub_bytes}
-use Rattle.cipher_aes.specs.Cipher.{shift_rows, inv_shift_rows, mix_column, inv_mix_column, columns, mix_columns, inv_mix_columns}
+use Rattle.cipher_aes.specs.Cipher.{shift_rows, inv_shift_rows, mix_column, columns, mix_columns, inv_mix_columns}
 use Rattle.cipher_aes.proofs.XorLaws.{undo}
-use Rattle.cipher_aes.proofs.TestLaws.{all, at}
+use Rattle.cipher_aes.proofs.TestLaws.{at}
 use Rattle.cipher_aes.proofs.FieldLaws.{octet, octet2, octet3}
 use Rattle.cipher_aes.proofs.ColumnLaws.{unmix, unmixed}
 

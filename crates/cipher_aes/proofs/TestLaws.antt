@@ -1,5 +1,5 @@
 -- A rule for every octet, proved by one test that antt computes.
-use mathlib.Core.Path.{◌≡◌, refl, sym, subst, ap₂}
+use mathlib.Core.Path.{◌≡◌, refl, subst, ap₂}
 use mathlib.Core.Bool.{Bool, true, false, not}
 use mathlib.Core.List.{List, [], ◌∷◌}
 use Prim.Native.Nat.{ℕ, zero, suc, ◌<◌, ◌≤◌}

@@ -1,5 +1,5 @@
 -- FIPS 197, sections 4.1 to 4.3: octets as elements of GF(2^8), and lists of octets.
-use Rattle.std.specs.Prelude.{ℕ, ◌+◌, ◌*◌, ◌/◌, ◌%◌, ◌<◌, ◌≡◌, List, [], ◌∷◌, length}
+use Rattle.std.specs.Prelude.{ℕ, ◌*◌, ◌/◌, ◌%◌, ◌<◌, ◌≡◌, List, [], ◌∷◌, length}
 use Rattle.std.specs.Int.Bits.{bit_xor}
 
 infixl 60 ◌⊕◌

@@ -5,7 +5,7 @@ use mathlib.Core.Path.{◌≡◌, refl, sym, ap, ◌∙◌}
 use mathlib.Core.Bool.{Bool, true, false, cond, ◌&&◌}
 use mathlib.Core.List.{List, [], ◌∷◌, ◌++◌}
 use native.Mathlib.Omega.{arith}
-use borrow.Author.Tests.{le-leb, eq-eqb, eqb-true}
+use borrow.Author.Tests.{le-leb, eq-eqb}
 use lib.Dec.{leb}
 use lib.ListN.{length, take, drop, length-append, length-take}
 use Rattle.digest_hmac.specs.Hmac.{hmac}
@@ -17,7 +17,7 @@ use Rattle.questions.proofs.TestLaws.{both}
 use Rattle.message_rules.specs.declared.fields.Fields.{Fields}
 use Rattle.message_rules.specs.declared.fields.Receiver.{Receiver}
 use Rattle.message_rules.specs.Ranges.{is_required_of}
-use Rattle.message_rules.specs.Messages.{code_of, receiver_of, message_answer, reader_answer_of}
+use Rattle.message_rules.specs.Messages.{code_of, receiver_of, reader_answer_of}
 use Rattle.message_rules.specs.Limits.{fields_fit_of, auth_key_fits_of}
 use Rattle.message_rules.specs.Fields.{fields_of}
 use Rattle.message_rules.specs.Reading.{taken_of, read_of, reader_of}

@@ -1,10 +1,10 @@
 -- An accepted message in the standard order, written again from what was read of it with its own digest: the same octets; and where a digest stands.
-use Prim.Native.Nat.{ℕ, ◌+◌, ◌*◌, ◌-◌, ◌≤◌}
+use Prim.Native.Nat.{ℕ, ◌+◌, ◌*◌, ◌≤◌}
 use mathlib.Core.Path.{◌≡◌, refl, sym, ap, ◌∙◌}
 use mathlib.Core.List.{List, [], ◌∷◌, ◌++◌, append-nil, append_assoc}
-use mathlib.Core.Bool.{Bool, true, false, ◌&&◌, cond}
-use lib.ListN.{length, get_or, take, drop, replicate, length-append, length-drop}
-use lib.Seq.{take_at, take_all}
+use mathlib.Core.Bool.{true, false, ◌&&◌}
+use lib.ListN.{length, get_or, take, drop, length-append, length-drop}
+use lib.Seq.{take_all}
 use lib.Dec.{eqb}
 use native.Mathlib.Omega.{arith}
 use borrow.Author.Tests.{eqb-true}
@@ -13,7 +13,7 @@ use Rattle.questions.specs.declared.refusal.Answer.TheVariants.{Done}
 use Rattle.message_rules.specs.declared.fields.Fields.{Fields}
 use Rattle.message_rules.specs.declared.fields.Receiver.{Receiver}
 use Rattle.message_rules.specs.Attributes.{Item, attr, items, values, value_at, start_from, two, attr_octets, octets}
-use Rattle.message_rules.specs.Ranges.{required_of, among, is_required_of, fits, good}
+use Rattle.message_rules.specs.Ranges.{required_of, among, is_required_of, good}
 use Rattle.message_rules.specs.Messages.{code_of, identifier_of, length_of, body_of, message_answer}
 use Rattle.message_rules.specs.Fields.{fields_of}
 use Rattle.message_rules.specs.Reading.{place_of, taken_of}
@@ -23,7 +23,7 @@ use Rattle.message_rules.proofs.AttributesLaws.{Octets, Whole, octets_take, octe
 use Rattle.message_rules.proofs.HoldsLaws.{never, octets_append, all_whole, start_value}
 use Rattle.message_rules.proofs.CodesLaws.{by_code}
 use Rattle.message_rules.proofs.PartsRead.{octet_items}
-use Rattle.message_rules.proofs.TakenLaws.{taken, once, first_fits}
+use Rattle.message_rules.proofs.TakenLaws.{taken, once}
 use Rattle.message_rules.proofs.ItemsRead.{InOrder, items_again}
 
 -- ---- the digest of a message that is written

@@ -1,7 +1,7 @@
 -- The standard order of a message (document 01, "Messages": "In the standard order ..").
-use Rattle.std.specs.Prelude.{ℕ, ◌+◌, ◌-◌, List, [], ◌∷◌, ◌++◌, Bool, true, false, ◌&&◌, cond, length, take, replicate, eqb}
+use Rattle.std.specs.Prelude.{ℕ, ◌+◌, List, [], ◌∷◌, ◌++◌, Bool, true, false, ◌&&◌, length, replicate, eqb}
 use Rattle.message_rules.specs.Attributes.{Item, attr, cut, items, values, count_of}
-use Rattle.message_rules.specs.Ranges.{Required, required_of, is_required_of}
+use Rattle.message_rules.specs.Ranges.{Required, required_of}
 use Rattle.message_rules.specs.Messages.{code_of, length_of, body_of}
 
 -- The types of a list of attributes, in order

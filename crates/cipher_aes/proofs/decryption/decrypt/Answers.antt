@@ -3,7 +3,7 @@ use Rattle.cipher_aes.proofs.EquivalentLaws.{eq_step}
 use Rattle.cipher_aes.specs.Cipher.{add_round_key_of, eq_round_of, eq_rounds_of, inv_final_of, eq_inv_cipher}
 use Rattle.cipher_aes.specs.Words.{state, key_at}
 use native.Mathlib.Omega.{arith}
-use Prim.Native.Nat.{ℕ, ◌-◌}
+use Prim.Native.Nat.{ℕ}
 use mathlib.Core.List.{List}
 use mathlib.Core.Path.{◌≡◌, refl, ap, ap₂, ◌∙◌}
 use Rattle.cipher_aes.proofs.decryption.decrypt.Goals as goal
@@ -13,10 +13,10 @@ loop-n-init c = (omega arith, refl)
 
 pub loop-n-preserved : goal.loop-n-preserved
 loop-n-preserved c = let at-loop = c in (
-      omega arith,
-      eq_step (key_at c.args.v.now) at-loop.loop-n.n (state at-loop.loop-n.x) _ (omega arith)
-          (c.inv_round-x.ensures ∙ ap (λ (k : List ℕ). eq_round_of k (state at-loop.loop-n.x)) c.key_at-in-loop-n.ensures) ∙ at-loop.loop-n.invariant.1,
-    )
+  omega arith,
+  eq_step (key_at c.args.v.now) at-loop.loop-n.n (state at-loop.loop-n.x) _ (omega arith)
+      (c.inv_round-x.ensures ∙ ap (λ (k : List ℕ). eq_round_of k (state at-loop.loop-n.x)) c.key_at-in-loop-n.ensures) ∙ at-loop.loop-n.invariant.1,
+)
 
 pub returns : goal.returns
 unfolding eq_inv_cipher eq_rounds_of

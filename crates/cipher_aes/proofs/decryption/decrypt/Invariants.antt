@@ -1,7 +1,7 @@
 -- `decryption::decrypt` meets its contract: what is left of the rounds, from n down, makes of x what all of them make of the State that came.
 use Rattle.cipher_aes.specs.Cipher.{eq_rounds_of}
 use Rattle.cipher_aes.specs.Words.{state, key_at}
-use Prim.Native.Nat.{◌-◌, ◌≤◌}
+use Prim.Native.Nat.{◌≤◌}
 use mathlib.Core.Path.{◌≡◌}
 use Rattle.cipher_aes.proofs.decryption.decrypt.Given as goal
 

@@ -3,7 +3,6 @@ use Rattle.cipher_aes.proofs.ScheduleLaws.{one_key_more}
 use Rattle.cipher_aes.specs.Cipher.{inv_mix_columns}
 use Rattle.cipher_aes.specs.Words.{key_at}
 use native.Mathlib.Omega.{arith}
-use Prim.Native.Nat.{◌-◌}
 use mathlib.Core.Path.{◌≡◌, refl, ap, ◌∙◌}
 use Rattle.cipher_aes.proofs.decryption.inverse_schedule.Goals as goal
 

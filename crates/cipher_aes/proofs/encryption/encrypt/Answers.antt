@@ -3,7 +3,6 @@ use Rattle.cipher_aes.specs.Cipher.{add_round_key_of, round, final_round_of, rou
 use Rattle.cipher_aes.specs.Words.{key_at}
 use native.Mathlib.Omega.{arith}
 use native.Mathlib.Numerals.{add-one}
-use Prim.Native.Nat.{◌-◌}
 use mathlib.Core.Path.{◌≡◌, refl, ap₂, ◌∙◌}
 use Rattle.cipher_aes.proofs.encryption.encrypt.Goals as goal
 

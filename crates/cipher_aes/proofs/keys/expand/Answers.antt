@@ -4,7 +4,6 @@ use Rattle.cipher_aes.specs.Keys.{next_key_of, round_key}
 use Rattle.cipher_aes.specs.Words.{state}
 use native.Mathlib.Omega.{arith}
 use native.Mathlib.Numerals.{add-one}
-use Prim.Native.Nat.{◌-◌}
 use mathlib.Core.Path.{◌≡◌, refl, ap₂, ◌∙◌}
 use Rattle.cipher_aes.proofs.keys.expand.Goals as goal
 

@@ -1,7 +1,6 @@
 -- `digest::put20` meets its contract: the first i octets are stored.
 use native.Mathlib.Omega.{arith}
 use mathlib.Core.Path.{◌≡◌, refl}
-use Prim.Native.Nat.{◌-◌}
 use lib.ListN.{take, length-set}
 use lib.Seq.{take_all}
 use Rattle.digest_hmac.proofs.FillLaws.{put_more}
@@ -18,7 +17,7 @@ loop-k-preserved c = (
   rw c.loop-k.invariant.3
       (put_more c.args.d c.args.out.now c.args.at
       c.loop-k.k (omega arith)),
-    )
+)
 
 pub shape_of-out : goal.shape_of-out
 shape_of-out c = c.loop-k.invariant.2

@@ -1,7 +1,7 @@
 -- `digest::same20` meets its contract: differ is 0 where the first i octets are the same.
 use native.Mathlib.Omega.{arith}
 use mathlib.Core.Path.{◌≡◌, refl}
-use Prim.Native.Nat.{◌-◌, ◌<◌}
+use Prim.Native.Nat.{◌<◌}
 use lib.ListN.{length, take, drop, length-drop}
 use lib.Seq.{get_or-drop, take_all}
 use Rattle.digest_hmac.specs.Hmac.{same}

@@ -1,5 +1,5 @@
 -- `compress::compress` meets its contract: s is the definition's after t rounds; from round 20 on `Upto`, with the words made so far.
-use Rattle.std.proofs.Common.{◌≡◌, ◌-◌, refl, arith}
+use Rattle.std.proofs.Common.{◌≡◌, refl, arith}
 use Rattle.digest_sha1.specs.Sha1.{rounds, compress}
 use Rattle.digest_sha1.proofs.RoundLaws.{more1, more2, more3, more4}
 use Rattle.digest_sha1.proofs.ScheduleLaws.{first_word}
@@ -16,7 +16,7 @@ loop-t-preserved c = (
       c.first_words-w.result _
       c.first_words-w.ensures (omega arith)) c.ch.ensures
       c.round-s.ensures,
-    )
+)
 
 pub loop-t-2-init : goal.loop-t-2-init
 loop-t-2-init c = let e : c.loop-t.t ≡ 20 = omega arith in
@@ -28,7 +28,7 @@ loop-t-2-preserved c = (
   omega arith,
   more2 _ _ _ _ _ _ _ _ c.loop-t-2.invariant.2
       c.next_word-x.ensures (omega arith) (omega arith) c.parity.ensures c.round-s-in-loop-t-2.ensures,
-    )
+)
 
 pub loop-t-3-init : goal.loop-t-3-init
 loop-t-3-init c = let e : c.loop-t-2.t ≡ 40 = omega arith in
@@ -40,7 +40,7 @@ loop-t-3-preserved c = (
   omega arith,
   more3 _ _ _ _ _ _ _ _ c.loop-t-3.invariant.2
       c.next_word-x-in-loop-t-3.ensures (omega arith) (omega arith) c.maj.ensures c.round-s-in-loop-t-3.ensures,
-    )
+)
 
 pub loop-t-4-init : goal.loop-t-4-init
 loop-t-4-init c = let e : c.loop-t-3.t ≡ 60 = omega arith in
@@ -52,7 +52,7 @@ loop-t-4-preserved c = (
   omega arith,
   more4 _ _ _ _ _ _ _ _ c.loop-t-4.invariant.2
       c.next_word-x-in-loop-t-4.ensures (omega arith) (omega arith) c.parity-in-loop-t-4.ensures c.round-s-in-loop-t-4.ensures,
-    )
+)
 
 pub returns : goal.returns
 unfolding compress

@@ -1,5 +1,5 @@
 -- `message::finish` meets its contract: g is the hash value after i blocks.
-use Rattle.std.proofs.Common.{◌-◌, refl, arith}
+use Rattle.std.proofs.Common.{refl, arith}
 use Rattle.digest_sha1.specs.Sha1.{blocks}
 use Rattle.digest_sha1.proofs.BlockLaws.{one_more, part_length, rest_length, finished}
 use Rattle.digest_sha1.proofs.message.finish.Goals as goal
@@ -17,7 +17,7 @@ loop-i-preserved c = (
   refl,
   one_more _ _ _ c.args.m.now
       c.loop-i.i c.loop-i.invariant.2 c.compress-g.ensures,
-    )
+)
 
 pub last_blocks-requires : goal.last_blocks-requires
 last_blocks-requires c = rest_length c.args.m.now c.args.n

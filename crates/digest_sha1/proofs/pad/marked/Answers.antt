@@ -1,5 +1,5 @@
 -- `pad::marked` meets its contract: the first i octets are copied, zeros follow.
-use Rattle.std.proofs.Common.{◌≡◌, ◌-◌, length, refl, arith}
+use Rattle.std.proofs.Common.{◌≡◌, length, refl, arith}
 use Rattle.digest_sha1.proofs.PadLaws.{copied_more, marked_after}
 use Rattle.digest_sha1.proofs.pad.marked.Goals as goal
 
@@ -12,7 +12,7 @@ loop-i-preserved c = (
   refl,
   omega arith,
   rw c.loop-i.invariant.3 (copied_more c.args.s.now c.loop-i.i (omega arith) (omega arith)),
-    )
+)
 
 pub returns : goal.returns
 returns c = let e : c.loop-i.i ≡ length c.args.s.now = omega arith in

@@ -1,5 +1,5 @@
 -- `schedule::first_words` meets its contract: the first t words of w are those of the definition.
-use Rattle.std.proofs.Common.{◌≡◌, ◌-◌, refl, arith, length-set}
+use Rattle.std.proofs.Common.{◌≡◌, refl, arith, length-set}
 use Rattle.digest_sha1.specs.Sha1.{schedule}
 use Rattle.digest_sha1.proofs.ScheduleLaws.{word_more, next_more}
 use Rattle.digest_sha1.proofs.schedule.first_words.Goals as goal
@@ -14,7 +14,7 @@ loop-t-preserved c = (
   simp length-set c.loop-t.invariant.1,
   word_more _ _ _ _ (omega arith)
       c.loop-t.invariant.2 (omega arith) c.word.ensures,
-    )
+)
 
 pub loop-t-2-init : goal.loop-t-2-init
 loop-t-2-init c = let e : c.loop-t.t ≡ 16 = omega arith in
@@ -27,7 +27,7 @@ loop-t-2-preserved c = (
   simp length-set c.loop-t-2.invariant.2,
   next_more _ _ _ _
       (omega arith) c.loop-t-2.invariant.3 (omega arith) c.next_word.ensures,
-    )
+)
 
 pub returns : goal.returns
 returns c = let e : c.loop-t-2.t ≡ 20 = omega arith in rw e at c.loop-t-2.invariant.3

@@ -15,12 +15,12 @@ returns-then-t-older c = simp (lt-ltb _ _ c.if-t-older.true)
 pub returns-then-t-newer : goal.returns-then-t-newer
 unfolding rolled_of
 returns-then-t-newer c = simp (
-      le-ltb _ _ c.if-t-older.false,
-      lt-ltb _ _ c.if-t-newer.true,
-      c.mint-next.ensures,
-      c.tek_after.ensures,
-      c.width-w.ensures.0,
-    )
+  le-ltb _ _ c.if-t-older.false,
+  lt-ltb _ _ c.if-t-newer.true,
+  c.mint-next.ensures,
+  c.tek_after.ensures,
+  c.width-w.ensures.0,
+)
     refl
 
 pub returns : goal.returns

@@ -6,7 +6,7 @@ use lib.ListN.{take, replicate}
 use native.Mathlib.Omega.{arith}
 use mathlib.Core.Path.{◌≡◌, ap, ◌∙◌}
 use mathlib.Core.List.{◌++◌, append-nil}
-use Prim.Native.Nat.{ℕ, ◌+◌, ◌-◌}
+use Prim.Native.Nat.{ℕ, ◌-◌}
 use Rattle.key_traffic.proofs.octets.octets.Goals as goal
 
 pub loop-i-init : goal.loop-i-init

@@ -3,7 +3,7 @@ use Rattle.key_traffic.specs.Octets.{octets_value}
 use lib.ListN.{take, replicate}
 use mathlib.Core.Path.{◌≡◌}
 use mathlib.Core.List.{◌++◌}
-use Prim.Native.Nat.{◌+◌, ◌-◌, ◌≤◌}
+use Prim.Native.Nat.{◌-◌, ◌≤◌}
 use Rattle.key_traffic.proofs.octets.octets.Given as goal
 
 abbrev pub invariant-loop-i : goal.invariant-loop-i

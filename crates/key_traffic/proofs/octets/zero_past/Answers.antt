@@ -4,7 +4,6 @@ use mathlib.Core.Path.{sym, ◌∙◌}
 use Rattle.key_traffic.specs.Octets.{zero_past_of}
 use native.Mathlib.Omega.{arith}
 use mathlib.Core.Path.{refl}
-use Prim.Native.Nat.{◌-◌}
 use Rattle.key_traffic.proofs.octets.zero_past.Goals as goal
 
 pub loop-i-init : goal.loop-i-init

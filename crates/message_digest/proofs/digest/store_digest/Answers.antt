@@ -1,6 +1,5 @@
 -- `message_digest::digest::store_digest` meets its contract.
 use mathlib.Core.Path.{sym, ◌∙◌}
-use mathlib.Core.Bool.{true}
 use native.Mathlib.Omega.{arith}
 use Rattle.message_digest.specs.Digest.{digest_filled}
 use Rattle.message_digest.proofs.digest.store_digest.Goals as goal
