@@ -10,11 +10,11 @@ use Rattle.modem_tek.specs.Tek.{HasTransition}
 use Rattle.modem_tek.proofs.tek.is_storing.Goals as goal
 
 turned : (n k : ℕ) → eqb n k ≡ false → eqb k n ≡ false
-    turned n k e = ne_eqb k n (λ q. eqb-false n k e (sym q))
+turned n k e = ne_eqb k n (λ q. eqb-false n k e (sym q))
 
 no-reply-elsewhere : (from : ℕ) → eqb from 1 ≡ false → eqb from 4 ≡ false → tek_next_of 8 from ≡ blank
-    unfolding next_in tek_transitions
-    no-reply-elsewhere from not-b not-e = simp (turned from 1 not-b, turned from 4 not-e)
+unfolding next_in tek_transitions
+no-reply-elsewhere from not-b not-e = simp (turned from 1 not-b, turned from 4 not-e)
 
 pub returns : goal.returns
 returns c = let event = c.args.event in
