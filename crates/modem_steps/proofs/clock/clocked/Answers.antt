@@ -11,11 +11,11 @@ auth_fired-requires c = started_ready (with_clock_of c.args.m c.args.t) c.start.
 pub returns : goal.returns
 unfolding clocked slots_fired_of
 returns c = rw (
-      c.slot_fired-4.ensures.0,
-      c.slot_fired-3.ensures.0,
-      c.slot_fired-2.ensures.0,
-      c.slot_fired.ensures.0,
-      c.auth_fired.ensures.0,
-      c.start.ensures,
-    )
+  c.slot_fired-4.ensures.0,
+  c.slot_fired-3.ensures.0,
+  c.slot_fired-2.ensures.0,
+  c.slot_fired.ensures.0,
+  c.auth_fired.ensures.0,
+  c.start.ensures,
+)
     refl

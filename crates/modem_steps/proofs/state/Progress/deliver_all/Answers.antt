@@ -8,4 +8,4 @@ unfolding deliver_all_of
 returns c = (
   rw (c.deliver-4.ensures.0, c.deliver-3.ensures.0, c.deliver-2.ensures.0, c.deliver.ensures.0) refl,
   c.deliver-4.ensures.1,
-    )
+)
