@@ -27,7 +27,7 @@ returns-in_default c = simp (
   ne_eqb c.args.k 9 c.in_default.in_default-own.rest.0.0.1,
   ne_eqb c.args.k 10 c.in_default.in_default-own.rest.0.1,
   ne_eqb c.args.k 15 c.in_default.in_default-own.rest.1,
-    )
+)
 
 pub returns-in-12 : goal.returns-in-12
 unfolding inside_slot_of
@@ -48,4 +48,4 @@ returns-in_default-k c = simp (
   ne_eqb c.args.k 12 c.in_default-k.in_default-k-own.rest.0.0.1,
   ne_eqb c.args.k 24 c.in_default-k.in_default-k-own.rest.0.1,
   ne_eqb c.args.k 20 c.in_default-k.in_default-k-own.rest.1,
-    )
+)
