@@ -10,4 +10,4 @@ returns c = rw (
   c.part-2.ensures,
   c.be16_of-2.ensures,
   c.part-3.ensures,
-    ) (descriptor_is c.args.v.now c.pass_inside-r.result c.pass_inside-r.ensures)
+) (descriptor_is c.args.v.now c.pass_inside-r.result c.pass_inside-r.ensures)

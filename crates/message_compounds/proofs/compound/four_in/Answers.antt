@@ -16,4 +16,4 @@ returns c = rw (
   c.part-3.ensures,
   c.descriptor_in-y.ensures,
   c.part-4.ensures,
-    )
+)

@@ -12,4 +12,4 @@ returns c = rw (
   c.part.ensures,
   c.params_in-n.ensures,
   c.part-2.ensures,
-    )
+)

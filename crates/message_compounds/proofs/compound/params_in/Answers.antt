@@ -12,4 +12,4 @@ returns c = rw (
   c.part-3.ensures,
   c.key_octets-2.ensures,
   c.part-4.ensures,
-    ) (params_is c.args.v.now c.pass_inside-r.result c.pass_inside-r.ensures)
+) (params_is c.args.v.now c.pass_inside-r.result c.pass_inside-r.ensures)
