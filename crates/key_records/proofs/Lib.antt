@@ -1,3 +1,1 @@
 pub mod RecordsLaws
-pub mod Again
-pub mod Shown
