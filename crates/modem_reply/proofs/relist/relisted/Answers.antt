@@ -16,4 +16,4 @@ returns c = (
   )
       refl,
   c.started_all.ensures.1,
-    )
+)
