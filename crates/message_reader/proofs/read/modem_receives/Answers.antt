@@ -15,7 +15,7 @@ returns-in-5-to-6-2 c = simp (
   lt-leb c.args.c 6 (omega arith),
   le-leb 8 c.args.c (omega arith),
   le-leb c.args.c 11 (omega arith),
-    )
+)
 
 pub returns-in_default : goal.returns-in_default
 unfolding receives
@@ -32,4 +32,4 @@ returns-in_default-3 c = simp (
   lt-leb c.args.c 6 (omega arith),
   le-leb 8 c.args.c (omega arith),
   lt-leb c.args.c 11 (omega arith),
-    )
+)

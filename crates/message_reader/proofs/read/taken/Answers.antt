@@ -35,8 +35,8 @@ joined : (m : List ℕ) (b : Body) (k : Compounds) {code identifier ak said life
       key = place_in b 4;
       digest = place_in b 5;
     }) (taken_from m b k)
-    unfolding taken_from
-    joined m b k c i v a w s x l y e = rw (c, i, a, v, s, w, l, x, e, y) refl
+unfolding taken_from
+joined m b k c i v a w s x l y e = rw (c, i, a, v, s, w, l, x, e, y) refl
 
 pub returns : goal.returns
 returns c = joined c.args.m.now c.args.b c.args.k
