@@ -1,6 +1,6 @@
 -- `headend_limits::limits::all_apart` meets its contract.
 use mathlib.Core.Path.{refl, sym, ◌∙◌}
-use Prim.Native.Nat.{◌-◌, ◌<◌}
+use Prim.Native.Nat.{◌<◌}
 use native.Mathlib.Omega.{arith}
 use lib.ListN.{take}
 use Rattle.headend_state.specs.Entries.{in_use_of}
