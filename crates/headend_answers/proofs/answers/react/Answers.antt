@@ -1,6 +1,6 @@
 -- `headend_answers::answers::react` meets its contract.
 use mathlib.Core.Path.{sym, ◌∙◌, ap}
-use native.Mathlib.Omega.{arith}
+use Rattle.std.proofs.Common.{arith, rules}
 use Rattle.message_rules.specs.declared.fields.Fields.{Fields}
 use Rattle.headend_answers.proofs.AnswersLaws.{react_request, react_key, react_none}
 use borrow.Author.Tests.{eq-eqb, ne_eqb}
@@ -18,4 +18,4 @@ returns-in-7 c = let x = c.args in
 pub returns-in_default : goal.returns-in_default
 returns-in_default c = let x = c.args in
     ap (λ (f : Fields). record { state = x.h; answer = f }) c.error_answer-none.ensures
-    ∙ sym (react_none x.h x.k x.a x.digest x.f (ne_eqb x.f.code 4 c.in_default.in_default-own.rest.0.1) (ne_eqb x.f.code 7 c.in_default.in_default-own.rest.1))
+    ∙ sym (react_none x.h x.k x.a x.digest x.f (ne_eqb x.f.code 4 (search rules)) (ne_eqb x.f.code 7 (search rules)))
