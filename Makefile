@@ -10,14 +10,13 @@ ARCHIVE = target/staticlib/lib$(NAME).a
 HEADER = include/curlewreel.h
 VERSION = $(shell sed -n 's/^\#define CURLEWREEL_VERSION "\(.*\)"$$/\1/p' $(HEADER))
 
-SOURCES = crates.txt $(shell find crates -name '*.rt' -o -name '*.antt')
+SOURCES = crates.txt $(shell find crates -path '*/out' -prune -o \( -name '*.rt' -o -name '*.antt' \) -print)
 
 all: $(ARCHIVE)
 
 # Proves the library and all under it, on all cores; then makes the archive.
 $(ARCHIVE): $(SOURCES)
 	tools/prove $(NAME)
-	rt staticlib $(NAME)
 
 # Copies header and archive below DESTDIR and PREFIX, with a file for pkg-config.
 install: $(ARCHIVE)
@@ -29,12 +28,12 @@ install: $(ARCHIVE)
 	    'Cflags: -I$${includedir}' 'Libs: -L$${libdir} -l$(NAME)' >target/$(NAME).pc
 	install -m 644 target/$(NAME).pc "$(DESTDIR)$(PKGCONFIGDIR)"
 
-# Runs the gate: everything proved from nothing, and the checks outside Rattle.
+# Runs the gate: everything proved, and the checks outside Rattle.
 check:
 	.ci/run
 
 # Removes all that was made, the proofs too: the next `all` proves everything again.
 clean:
-	rm -rf target
+	rm -rf target crates/*/out
 
 .PHONY: all install check clean

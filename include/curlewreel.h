@@ -1,5 +1,5 @@
 /* Curlewreel, the key engine of Baseline Privacy Plus, for C and C++. `make install` puts the library where pkg-config finds it; in the
- * repository, link libcurlewreel.a (made by `rt staticlib curlewreel`).
+ * repository, link libcurlewreel.a (made by `tools/prove curlewreel`).
  * Every function of the library is proved to do what its contract says, for all arguments; the comments here retell the contracts and are not
  * proved, nor is the rest of the header, with the small functions that are defined in it: outside/compare/layout.c looks for each field where it
  * stands here, and the programs under examples/ and outside/ call each function; the gate runs them. A slice is passed as a pointer and a length;
