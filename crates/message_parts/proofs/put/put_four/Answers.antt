@@ -5,4 +5,4 @@ use Rattle.message_parts.proofs.put.put_four.Goals as goal
 
 pub returns : goal.returns
 unfolding four
-returns c =  record { wrote = c.put_attr.ensures.wrote; value = omega arith }
+returns c = record { wrote = c.put_attr.ensures.wrote; value = omega arith }

@@ -6,4 +6,4 @@ use Rattle.message_parts.proofs.put.put_inside.Goals as goal
 
 pub returns : goal.returns
 unfolding params_items_of
-returns c =  record { wrote = then_items c.put_key-a.ensures.wrote (then_items c.put_four-b.ensures.wrote (then_items c.put_one-c.ensures.wrote c.put_key.ensures.wrote)); upper_bound = omega arith }
+returns c = record { wrote = then_items c.put_key-a.ensures.wrote (then_items c.put_four-b.ensures.wrote (then_items c.put_one-c.ensures.wrote c.put_key.ensures.wrote)); upper_bound = omega arith }

@@ -1,6 +1,6 @@
 -- `message_parts::put::put_key` meets its contract.
 use Prim.Native.Nat.{ℕ}
-use mathlib.Core.List.{List, ◌∷◌}
+use mathlib.Core.List.{List, [], ◌∷◌}
 use mathlib.Core.Path.{◌≡◌, sym, ap}
 use native.Mathlib.Omega.{arith}
 use lib.Seq.{length-take-le}
@@ -24,4 +24,4 @@ returns c = let k = c.args.k in
     let n = c.own_len-n.result in
     let l : length k.octets ≡ 16 = search rules in
     let e : length (take n k.octets) ≡ n = length-take-le n k.octets (omega arith) in
-     record { wrote = wrote_as (ap (λ (v : List ℕ). attr c.args.kind v ∷ []) (own_octets k.width n k.octets c.own_len-n.ensures l)) c.put_attr.ensures.wrote; value = omega arith }
+    record { wrote = wrote_as (ap (λ (v : List ℕ). attr c.args.kind v ∷ []) (own_octets k.width n k.octets c.own_len-n.ensures l)) c.put_attr.ensures.wrote; value = omega arith }

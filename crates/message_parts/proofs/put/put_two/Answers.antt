@@ -5,4 +5,4 @@ use Rattle.message_parts.proofs.put.put_two.Goals as goal
 
 pub returns : goal.returns
 unfolding two
-returns c =  record { wrote = c.put_attr.ensures.wrote; value = omega arith }
+returns c = record { wrote = c.put_attr.ensures.wrote; value = omega arith }
