@@ -11,20 +11,20 @@ plain_event-w-requires c = started_ready c.args.m c.start.result c.start.ensures
 pub returns-then-m-eq-AUTH_REAUTH_WAIT : goal.returns-then-m-eq-AUTH_REAUTH_WAIT
 unfolding rejected
 returns-then-m-eq-AUTH_REAUTH_WAIT c = simp (
-      eq-eqb _ _ c.if-m-eq-AUTH_REAUTH_WAIT.true,
-      c.deliver_all.ensures.0,
-      c.plain_event-w.ensures.0,
-      c.reject_event.ensures,
-      c.start.ensures,
-    )
+  eq-eqb _ _ c.if-m-eq-AUTH_REAUTH_WAIT.true,
+  c.deliver_all.ensures.0,
+  c.plain_event-w.ensures.0,
+  c.reject_event.ensures,
+  c.start.ensures,
+)
     refl
 
 pub returns : goal.returns
 unfolding rejected
 returns c = simp (
-      ne_eqb _ _ c.if-m-eq-AUTH_REAUTH_WAIT.false,
-      c.plain_event-w.ensures.0,
-      c.reject_event.ensures,
-      c.start.ensures,
-    )
+  ne_eqb _ _ c.if-m-eq-AUTH_REAUTH_WAIT.false,
+  c.plain_event-w.ensures.0,
+  c.reject_event.ensures,
+  c.start.ensures,
+)
     refl

@@ -22,8 +22,7 @@ deliver-requires c = let a = c.args in
 
 pub deliver-requires-in_default : goal.deliver-requires-in_default
 deliver-requires-in_default c = let a = c.args in
-    let other = c.in_default.in_default-own.rest in
-    let known : slot_of_said_of a.m a.f.said < 4 = c.requires.1.known other.0.0.0.0.1 other.0.0.0.1 other.1 in
+    let known : slot_of_said_of a.m a.f.said < 4 = c.requires.1.known (λ e. omega (arith, e)) (λ e. omega (arith, e)) (λ e. omega (arith, e)) in
     (omega (arith, known, c.slot_of_said-i.ensures.0), started_ready a.m c.start-in_default.result c.start-in_default.ensures c.requires.0)
 
 pub returns-in-5 : goal.returns-in-5
@@ -53,6 +52,5 @@ returns-in-10 c = let a = c.args in
 
 pub returns-in_default : goal.returns-in_default
 returns-in_default c = let a = c.args in
-    let other = c.in_default.in_default-own.rest in
     deliver_there a.m a.f c.start-in_default.result c.slot_of_said-i.result c.deliver-in_default.result c.start-in_default.ensures c.slot_of_said-i.ensures.0 5 c.deliver-in_default.ensures.0
-    ∙ received_11 a.m a.f other.0.0.0.0.1 other.0.0.0.1 other.0.0.1 other.0.1 other.1
+    ∙ received_11 a.m a.f (λ e. omega (arith, e)) (λ e. omega (arith, e)) (λ e. omega (arith, e)) (λ e. omega (arith, e)) (λ e. omega (arith, e))
