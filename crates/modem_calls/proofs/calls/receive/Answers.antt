@@ -26,8 +26,8 @@ unfolding receive_of
 returns-then-not-modem_fits c = let a = c.args in
     let s = a.message.now in
     let n = length a.out.now in
-    let read = a.read-key.now in
-    let write = a.write-key.now in
+    let read = a.read_key.now in
+    let write = a.write_key.now in
     let no_one : modem_fits_of a.m ≡ false = sym c.modem_fits.ensures ∙ c.if-not-modem_fits.true in
     refused_by a.m a.out.now _ write _ OutOfLimits _ (limits_no a.m (message_key_fits_of read && message_key_fits_of write) n (receive_questions a.m s (digest_holds_of read (taken_of s).digest s)) no_one) c.refused.ensures
 
@@ -36,8 +36,8 @@ unfolding receive_of
 returns-then-not-message_key_fits-out c = let a = c.args in
     let s = a.message.now in
     let n = length a.out.now in
-    let read = a.read-key.now in
-    let write = a.write-key.now in
+    let read = a.read_key.now in
+    let write = a.write_key.now in
     let fits : modem_fits_of a.m ≡ true = sym c.modem_fits.ensures ∙ c.if-not-modem_fits.false in
     let two : (message_key_fits_of read && message_key_fits_of write && leb 216 n) ≡ false =
     keys_found c.message_key_fits.result c.message_key_fits-2.result (message_key_fits_of read) (message_key_fits_of write) (leb 216 n) false c.message_key_fits.ensures c.message_key_fits-2.ensures (c.if-not-message_key_fits-out.true) in
@@ -48,8 +48,8 @@ unfolding receive_of
 returns-then-not-is_done c = let a = c.args in
     let s = a.message.now in
     let n = length a.out.now in
-    let read = a.read-key.now in
-    let write = a.write-key.now in
+    let read = a.read_key.now in
+    let write = a.write_key.now in
     let fits : modem_fits_of a.m ≡ true = sym c.modem_fits.ensures ∙ c.if-not-modem_fits.false in
     let two : (message_key_fits_of read && message_key_fits_of write && leb 216 n) ≡ true =
     keys_found c.message_key_fits.result c.message_key_fits-2.result (message_key_fits_of read) (message_key_fits_of write) (leb 216 n) true c.message_key_fits.ensures c.message_key_fits-2.ensures (c.if-not-message_key_fits-out.false) in
@@ -63,8 +63,8 @@ unfolding receive_of
 returns-then-not-widths_fit c = let a = c.args in
     let s = a.message.now in
     let n = length a.out.now in
-    let read = a.read-key.now in
-    let write = a.write-key.now in
+    let read = a.read_key.now in
+    let write = a.write_key.now in
     let fits : modem_fits_of a.m ≡ true = sym c.modem_fits.ensures ∙ c.if-not-modem_fits.false in
     let two : (message_key_fits_of read && message_key_fits_of write && leb 216 n) ≡ true =
     keys_found c.message_key_fits.result c.message_key_fits-2.result (message_key_fits_of read) (message_key_fits_of write) (leb 216 n) true c.message_key_fits.ensures c.message_key_fits-2.ensures (c.if-not-message_key_fits-out.false) in
@@ -81,8 +81,8 @@ unfolding receive_of
 returns-then-not-said_known c = let a = c.args in
     let s = a.message.now in
     let n = length a.out.now in
-    let read = a.read-key.now in
-    let write = a.write-key.now in
+    let read = a.read_key.now in
+    let write = a.write_key.now in
     let fits : modem_fits_of a.m ≡ true = sym c.modem_fits.ensures ∙ c.if-not-modem_fits.false in
     let two : (message_key_fits_of read && message_key_fits_of write && leb 216 n) ≡ true =
     keys_found c.message_key_fits.result c.message_key_fits-2.result (message_key_fits_of read) (message_key_fits_of write) (leb 216 n) true c.message_key_fits.ensures c.message_key_fits-2.ensures (c.if-not-message_key_fits-out.false) in
@@ -103,8 +103,8 @@ unfolding receive_of
 returns-then-not-identifier_fits c = let a = c.args in
     let s = a.message.now in
     let n = length a.out.now in
-    let read = a.read-key.now in
-    let write = a.write-key.now in
+    let read = a.read_key.now in
+    let write = a.write_key.now in
     let fits : modem_fits_of a.m ≡ true = sym c.modem_fits.ensures ∙ c.if-not-modem_fits.false in
     let two : (message_key_fits_of read && message_key_fits_of write && leb 216 n) ≡ true =
     keys_found c.message_key_fits.result c.message_key_fits-2.result (message_key_fits_of read) (message_key_fits_of write) (leb 216 n) true c.message_key_fits.ensures c.message_key_fits-2.ensures (c.if-not-message_key_fits-out.false) in
@@ -123,8 +123,8 @@ unfolding receive_of
 returns-then-not-digest_holds c = let a = c.args in
     let s = a.message.now in
     let n = length a.out.now in
-    let read = a.read-key.now in
-    let write = a.write-key.now in
+    let read = a.read_key.now in
+    let write = a.write_key.now in
     let fits : modem_fits_of a.m ≡ true = sym c.modem_fits.ensures ∙ c.if-not-modem_fits.false in
     let two : (message_key_fits_of read && message_key_fits_of write && leb 216 n) ≡ true =
     keys_found c.message_key_fits.result c.message_key_fits-2.result (message_key_fits_of read) (message_key_fits_of write) (leb 216 n) true c.message_key_fits.ensures c.message_key_fits-2.ensures (c.if-not-message_key_fits-out.false) in
@@ -154,8 +154,8 @@ pub done-requires : goal.done-requires
 done-requires c = let a = c.args in
     let s = a.message.now in
     let n = length a.out.now in
-    let read = a.read-key.now in
-    let write = a.write-key.now in
+    let read = a.read_key.now in
+    let write = a.write_key.now in
     let fits : modem_fits_of a.m ≡ true = sym c.modem_fits.ensures ∙ c.if-not-modem_fits.false in
     let two : (message_key_fits_of read && message_key_fits_of write && leb 216 n) ≡ true =
     keys_found c.message_key_fits.result c.message_key_fits-2.result (message_key_fits_of read) (message_key_fits_of write) (leb 216 n) true c.message_key_fits.ensures c.message_key_fits-2.ensures (c.if-not-message_key_fits-out.false) in
@@ -173,8 +173,8 @@ unfolding receive_of
 returns c = let a = c.args in
     let s = a.message.now in
     let n = length a.out.now in
-    let read = a.read-key.now in
-    let write = a.write-key.now in
+    let read = a.read_key.now in
+    let write = a.write_key.now in
     let fits : modem_fits_of a.m ≡ true = sym c.modem_fits.ensures ∙ c.if-not-modem_fits.false in
     let two : (message_key_fits_of read && message_key_fits_of write && leb 216 n) ≡ true =
     keys_found c.message_key_fits.result c.message_key_fits-2.result (message_key_fits_of read) (message_key_fits_of write) (leb 216 n) true c.message_key_fits.ensures c.message_key_fits-2.ensures (c.if-not-message_key_fits-out.false) in
