@@ -5,9 +5,9 @@ use Rattle.message_writer.proofs.limits.descriptors_fit.Goals as goal
 pub returns : goal.returns
 unfolding descriptors_fit_of
 returns c = simp (
-      c.saids_differ.ensures,
-      c.place_fit-4.ensures,
-      c.place_fit-3.ensures,
-      c.place_fit-2.ensures,
-      c.place_fit.ensures,
-    )
+  c.saids_differ.ensures,
+  c.place_fit-4.ensures,
+  c.place_fit-3.ensures,
+  c.place_fit-2.ensures,
+  c.place_fit.ensures,
+)

@@ -5,8 +5,8 @@ use Rattle.message_writer.proofs.limits.descriptors_zero.Goals as goal
 pub returns : goal.returns
 unfolding descriptors_zero_of
 returns c = simp (
-      c.place_fit-4.ensures,
-      c.place_fit-3.ensures,
-      c.place_fit-2.ensures,
-      c.place_fit.ensures,
-    )
+  c.place_fit-4.ensures,
+  c.place_fit-3.ensures,
+  c.place_fit-2.ensures,
+  c.place_fit.ensures,
+)

@@ -4,9 +4,9 @@ use Rattle.message_writer.proofs.limits.keys_fit.Goals as goal
 
 pub returns : goal.returns
 returns c = simp (
-      c.carried_or.ensures,
-      c.params_zero-2.ensures,
-      c.params_zero.ensures,
-      c.pair_fit.ensures,
-      c.is_required.ensures,
-    )
+  c.carried_or.ensures,
+  c.params_zero-2.ensures,
+  c.params_zero.ensures,
+  c.pair_fit.ensures,
+  c.is_required.ensures,
+)

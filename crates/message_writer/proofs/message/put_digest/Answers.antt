@@ -2,7 +2,6 @@
 use mathlib.Core.Path.{◌≡◌, sym, ◌∙◌}
 use mathlib.Core.Bool.{true, false}
 use native.Mathlib.Omega.{arith}
-use borrow.Author.Tests.{not-true, not-false}
 use Rattle.message_rules.specs.Ranges.{is_required_of}
 use Rattle.message_parts.specs.Parts.{digest_items}
 use Rattle.message_rules.proofs.HoldsLaws.{never}
@@ -11,10 +10,10 @@ use Rattle.message_writer.proofs.message.put_digest.Goals as goal
 
 pub returns-then-not-is_required : goal.returns-then-not-is_required
 unfolding digest_items
-returns-then-not-is_required c = let e : is_required_of c.args.code 11 ≡ false = sym c.is_required.ensures ∙ not-true c.is_required.result c.if-not-is_required.true in
-    (rw e (wrote_none _ _), (omega arith, λ h. never (sym e ∙ h)))
+returns-then-not-is_required c = let e : is_required_of c.args.code 11 ≡ false = sym c.is_required.ensures ∙ c.if-not-is_required.true in
+    record { wrote = rw e (wrote_none _ _); upper_bound = (omega arith, λ h. never (sym e ∙ h)) }
 
 pub returns : goal.returns
 unfolding digest_items
-returns c = let e : is_required_of c.args.code 11 ≡ true = sym c.is_required.ensures ∙ not-false c.is_required.result c.if-not-is_required.false in
-     record { wrote = rw e c.put_attr.ensures.wrote; upper_bound = (omega arith, λ h. omega arith) }
+returns c = let e : is_required_of c.args.code 11 ≡ true = sym c.is_required.ensures ∙ c.if-not-is_required.false in
+    record { wrote = rw e c.put_attr.ensures.wrote; upper_bound = (omega arith, λ h. omega arith) }

@@ -4,4 +4,4 @@ use Rattle.message_parts.proofs.Stores.{then_items}
 use Rattle.message_writer.proofs.message.put_reply.Goals as goal
 
 pub returns : goal.returns
-returns c =  record { wrote = then_items c.put_attr-a.ensures.wrote c.put_grant.ensures.wrote; upper_bound = omega arith }
+returns c = record { wrote = then_items c.put_attr-a.ensures.wrote c.put_grant.ensures.wrote; upper_bound = omega arith }
