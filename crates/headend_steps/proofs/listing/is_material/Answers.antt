@@ -9,7 +9,7 @@ use Rattle.headend_steps.proofs.listing.is_material.Goals as goal
 
 -- 64 times a number, by its quotient and its remainder
 by_parts : (octets count : ℕ) → (eqb (octets % 64) 0 && eqb (octets / 64) count) ≡ eqb octets (count * 64)
-    by_parts octets count = go (eqb (octets % 64) 0) (eqb (octets / 64) count) refl refl
+by_parts octets count = go (eqb (octets % 64) 0) (eqb (octets / 64) count) refl refl
   where
     go : (a b : Bool) → eqb (octets % 64) 0 ≡ a → eqb (octets / 64) count ≡ b → (a && b) ≡ eqb octets (count * 64)
     go true true e f = let same : octets ≡ count * 64 = omega (arith, eqb-true (octets % 64) 0 e, eqb-true (octets / 64) count f) in rw (eq-eqb octets (count * 64) same)

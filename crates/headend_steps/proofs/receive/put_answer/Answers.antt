@@ -5,8 +5,8 @@ use Rattle.headend_steps.proofs.receive.put_answer.Goals as goal
 
 pub returns-then-f-eq-CODE_NONE : goal.returns-then-f-eq-CODE_NONE
 returns-then-f-eq-CODE_NONE c = let x = c.args in
-    none_put x.f x.auth.now x.write-key.now x.out.now (eq-eqb _ _ c.if-f-eq-CODE_NONE.true)
+    none_put x.f x.auth.now x.write_key.now x.out.now (eq-eqb _ _ c.if-f-eq-CODE_NONE.true)
 
 pub returns : goal.returns
 returns c = let x = c.args in
-    answer_put x.f x.auth.now x.write-key.now x.out.now c.requires (ne_eqb _ _ c.if-f-eq-CODE_NONE.false) c.write-w.result _ c.write-w.ensures.0 c.write-w.ensures.1
+    answer_put x.f x.auth.now x.write_key.now x.out.now c.requires (ne_eqb _ _ c.if-f-eq-CODE_NONE.false) c.write-w.result _ c.write-w.ensures.0 c.write-w.ensures.1

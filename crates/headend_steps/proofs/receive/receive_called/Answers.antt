@@ -24,16 +24,16 @@ use Rattle.headend_steps.proofs.AnswerFits.{reaction_ready, reaction_writable}
 use Rattle.headend_steps.proofs.receive.receive_called.Goals as goal
 
 -- ---- the entry and the reaction by their results
-known-ready : (h : HeadEnd) (address : ℕ) (k : Known) → k ≡ known_of h address → ReactionFits h (known_of h address) → ReactionFits h k
-    known-ready h address k e ready = subst (ReactionFits h) (sym e) ready
+known_ready : (h : HeadEnd) (address : ℕ) (k : Known) → k ≡ known_of h address → ReactionFits h (known_of h address) → ReactionFits h k
+known_ready h address k e ready = subst (ReactionFits h) (sym e) ready
 
 module _ (h : HeadEnd) (s : Found) (address : ℕ) (digest : Bool) (r : Reading) where
-  reaction-is : (d : Bool) (k : Known) (w : Reaction) → d ≡ digest → k ≡ known_of h address → w ≡ reaction_of h k s.held d r.fields → w ≡ reaction_to h s address digest r
-  reaction-is d k w ed e ew = ew ∙ ap (λ (y : Known). reaction_of h y s.held d r.fields) e ∙ ap (λ (y : Bool). reaction_of h (known_of h address) s.held y r.fields) ed
+  reaction_is : (d : Bool) (k : Known) (w : Reaction) → d ≡ digest → k ≡ known_of h address → w ≡ reaction_of h k s.held d r.fields → w ≡ reaction_to h s address digest r
+  reaction_is d k w ed e ew = ew ∙ ap (λ (y : Known). reaction_of h y s.held d r.fields) e ∙ ap (λ (y : Bool). reaction_of h (known_of h address) s.held y r.fields) ed
 
-  reaction-there : (auth write : List ℕ) (lent : ℕ) (d : Bool) (k : Known) (w : Reaction) → d ≡ digest → k ≡ known_of h address → w ≡ reaction_of h k s.held d r.fields
+  reaction_there : (auth write : List ℕ) (lent : ℕ) (d : Bool) (k : Known) (w : Reaction) → d ≡ digest → k ≡ known_of h address → w ≡ reaction_of h k s.held d r.fields
       → Writable (reaction_to h s address digest r).answer auth write lent → Writable w.answer auth write lent
-  reaction-there auth write lent d k w ed e ew fits = subst (λ (y : Reaction). Writable y.answer auth write lent) (sym (reaction-is d k w ed e ew)) fits
+  reaction_there auth write lent d k w ed e ew fits = subst (λ (y : Reaction). Writable y.answer auth write lent) (sym (reaction_is d k w ed e ew)) fits
 
   module _ (bad len : ℕ) (read write : List ℕ) (auth lent : ℕ) where
     -- the answer by the digest and the keys that were asked
@@ -46,56 +46,59 @@ module _ (h : HeadEnd) (s : Found) (address : ℕ) (digest : Bool) (r : Reading)
         ∙ ap (λ (y : Bool). receive_answer_of h bad len s address digest (message_key_fits_of read && y) r auth lent) eq
 
     -- where it is done, the write key has its length
-    key-wide : receive_answer_of h bad len s address digest (keys_fit_of read write) r auth lent ≡ Done → length write ≡ 20
-    key-wide e = eqb-true (length write) 20 (both (message_key_fits_of read) (message_key_fits_of write) (receive_asked h bad len s address digest (keys_fit_of read write) r auth lent e).keys-fit).1
-
--- the answer, by the definitions
-asked : (c : tie.After-receive-answer) → c.receive_answer-a.result ≡ receive_answer_of c.args.h c.args.bad c.args.len c.args.s c.args.address
-    (digest_holds_of c.args.read-key.now c.args.r.digest c.args.message.now) (keys_fit_of c.args.read-key.now c.args.write-key.now)
-    c.args.r (length c.args.auth.now) (length c.args.out.now)
-    asked c =
-    let x = c.args in
-    answer_is x.h x.s x.address (digest_holds_of x.read-key.now x.r.digest x.message.now) x.r x.bad x.len x.read-key.now x.write-key.now
-    (length x.auth.now) (length x.out.now) _ _ _ c.receive_answer-a.result c.is_digest_right-digest.ensures c.message_key_fits.ensures c.message_key_fits-2.ensures c.receive_answer-a.ensures
+    key_wide : receive_answer_of h bad len s address digest (keys_fit_of read write) r auth lent ≡ Done → length write ≡ 20
+    key_wide e = eqb-true (length write) 20 (both (message_key_fits_of read) (message_key_fits_of write) (receive_asked h bad len s address digest (keys_fit_of read write) r auth lent e).keys-fit).1
 
 pub returns-then-not-is_done : goal.returns-then-not-is_done
 unfolding receive_called_of receive_written_of
-returns-then-not-is_done c = let x = c.args in
+returns-then-not-is_done c =
+    let x = c.args in
+    let asked = answer_is x.h x.s x.address (digest_holds_of x.read_key.now x.r.digest x.message.now) x.r x.bad x.len x.read_key.now x.write_key.now
+    (length x.auth.now) (length x.out.now) _ _ _ c.receive_answer-a.result c.is_digest_right-digest.ensures c.message_key_fits.ensures c.message_key_fits-2.ensures c.receive_answer-a.ensures in
     let a = c.receive_answer-a in
-    let w = reaction_to x.h x.s x.address (digest_holds_of x.read-key.now x.r.digest x.message.now) x.r in
-    let gone = receive_refused x.h w x.auth.now x.write-key.now a.result (sym c.is_done.ensures ∙ c.if-not-is_done.true) in (
-      c.answered.ensures ∙ gone.0 ∙ ap (λ (y : Answer). called_for y x.h w x.auth.now x.write-key.now) (asked c),
-      ap (overlay x.out.now) (gone.1 ∙ ap (λ (y : Answer). written_for y w x.auth.now x.write-key.now) (asked c)),
+    let w = reaction_to x.h x.s x.address (digest_holds_of x.read_key.now x.r.digest x.message.now) x.r in
+    let gone = receive_refused x.h w x.auth.now x.write_key.now a.result (sym c.is_done.ensures ∙ c.if-not-is_done.true) in (
+      c.answered.ensures ∙ gone.0 ∙ ap (λ (y : Answer). called_for y x.h w x.auth.now x.write_key.now) asked,
+      ap (overlay x.out.now) (gone.1 ∙ ap (λ (y : Answer). written_for y w x.auth.now x.write_key.now) asked),
     )
 
 pub react-w-requires : goal.react-w-requires
-react-w-requires c = let x = c.args in
-    let done = sym (asked c) ∙ is-done c.receive_answer-a.result (sym c.is_done.ensures ∙ c.if-not-is_done.false) in
-    known-ready x.h x.address c.entry_of-k.result c.entry_of-k.ensures
-    (reaction_ready x.h x.bad x.len x.s x.address (digest_holds_of x.read-key.now x.r.digest x.message.now) (keys_fit_of x.read-key.now x.write-key.now) x.r (length x.auth.now) (length x.out.now) done)
+react-w-requires c =
+    let x = c.args in
+    let asked = answer_is x.h x.s x.address (digest_holds_of x.read_key.now x.r.digest x.message.now) x.r x.bad x.len x.read_key.now x.write_key.now
+    (length x.auth.now) (length x.out.now) _ _ _ c.receive_answer-a.result c.is_digest_right-digest.ensures c.message_key_fits.ensures c.message_key_fits-2.ensures c.receive_answer-a.ensures in
+    let done = sym asked ∙ is-done c.receive_answer-a.result (sym c.is_done.ensures ∙ c.if-not-is_done.false) in
+    known_ready x.h x.address c.entry_of-k.result c.entry_of-k.ensures
+    (reaction_ready x.h x.bad x.len x.s x.address (digest_holds_of x.read_key.now x.r.digest x.message.now) (keys_fit_of x.read_key.now x.write_key.now) x.r (length x.auth.now) (length x.out.now) done)
 
 pub put_answer-n-requires : goal.put_answer-n-requires
-put_answer-n-requires c = let x = c.args in
-    let digest = digest_holds_of x.read-key.now x.r.digest x.message.now in
-    let keys = keys_fit_of x.read-key.now x.write-key.now in
-    let done = sym (asked c) ∙ is-done c.receive_answer-a.result (sym c.is_done.ensures ∙ c.if-not-is_done.false) in
-    let wide = key-wide x.h x.s x.address digest x.r x.bad x.len x.read-key.now x.write-key.now (length x.auth.now) (length x.out.now) done in
-    reaction-there x.h x.s x.address digest x.r x.auth.now x.write-key.now (length x.out.now) _ c.entry_of-k.result c.react-w.result c.is_digest_right-digest.ensures c.entry_of-k.ensures c.react-w.ensures
-    (reaction_writable x.h x.bad x.len x.s x.address digest keys x.r x.auth.now x.write-key.now (length x.out.now) done wide)
+put_answer-n-requires c =
+    let x = c.args in
+    let asked = answer_is x.h x.s x.address (digest_holds_of x.read_key.now x.r.digest x.message.now) x.r x.bad x.len x.read_key.now x.write_key.now
+    (length x.auth.now) (length x.out.now) _ _ _ c.receive_answer-a.result c.is_digest_right-digest.ensures c.message_key_fits.ensures c.message_key_fits-2.ensures c.receive_answer-a.ensures in
+    let digest = digest_holds_of x.read_key.now x.r.digest x.message.now in
+    let keys = keys_fit_of x.read_key.now x.write_key.now in
+    let done = sym asked ∙ is-done c.receive_answer-a.result (sym c.is_done.ensures ∙ c.if-not-is_done.false) in
+    let wide = key_wide x.h x.s x.address digest x.r x.bad x.len x.read_key.now x.write_key.now (length x.auth.now) (length x.out.now) done in
+    reaction_there x.h x.s x.address digest x.r x.auth.now x.write_key.now (length x.out.now) _ c.entry_of-k.result c.react-w.result c.is_digest_right-digest.ensures c.entry_of-k.ensures c.react-w.ensures
+    (reaction_writable x.h x.bad x.len x.s x.address digest keys x.r x.auth.now x.write_key.now (length x.out.now) done wide)
 
 pub returns : goal.returns
 unfolding receive_called_of receive_written_of
-returns c = let x = c.args in
+returns c =
+    let x = c.args in
+    let asked = answer_is x.h x.s x.address (digest_holds_of x.read_key.now x.r.digest x.message.now) x.r x.bad x.len x.read_key.now x.write_key.now
+    (length x.auth.now) (length x.out.now) _ _ _ c.receive_answer-a.result c.is_digest_right-digest.ensures c.message_key_fits.ensures c.message_key_fits-2.ensures c.receive_answer-a.ensures in
     let auth = x.auth.now in
-    let write = x.write-key.now in
-    let digest = digest_holds_of x.read-key.now x.r.digest x.message.now in
+    let write = x.write_key.now in
+    let digest = digest_holds_of x.read_key.now x.r.digest x.message.now in
     let a = c.receive_answer-a in
     let w = c.react-w.result in
-    let same = reaction-is x.h x.s x.address digest x.r _ c.entry_of-k.result w c.is_digest_right-digest.ensures c.entry_of-k.ensures c.react-w.ensures in
-    let q = receive_answer_of x.h x.bad x.len x.s x.address digest (keys_fit_of x.read-key.now write) x.r (length auth) (length x.out.now) in
+    let same = reaction_is x.h x.s x.address digest x.r _ c.entry_of-k.result w c.is_digest_right-digest.ensures c.entry_of-k.ensures c.react-w.ensures in
+    let q = receive_answer_of x.h x.bad x.len x.s x.address digest (keys_fit_of x.read_key.now write) x.r (length auth) (length x.out.now) in
     let put = c.put_answer-n.ensures in
     let over = receive_done x.h w auth write a.result (sym c.is_done.ensures ∙ c.if-not-is_done.false) in (
       ap (λ (n : ℕ). record { answer = a.result; state = w.state; count = n }) put.0 ∙ over.0
-          ∙ ap (λ (y : Answer). called_for y x.h w auth write) (asked c) ∙ ap (λ (y : Reaction). called_for q x.h y auth write) same,
-      put.1 ∙ ap (overlay x.out.now) (over.1 ∙ ap (λ (y : Answer). written_for y w auth write) (asked c) ∙ ap (λ (y : Reaction). written_for q y auth write) same),
+          ∙ ap (λ (y : Answer). called_for y x.h w auth write) asked ∙ ap (λ (y : Reaction). called_for q x.h y auth write) same,
+      put.1 ∙ ap (overlay x.out.now) (over.1 ∙ ap (λ (y : Answer). written_for y w auth write) asked ∙ ap (λ (y : Reaction). written_for q y auth write) same),
     )
