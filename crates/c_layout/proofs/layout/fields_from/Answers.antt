@@ -20,4 +20,4 @@ returns c = simp (
   c.part-2.ensures,
   c.params_from-newer.ensures,
   c.part-3.ensures,
-    )
+)

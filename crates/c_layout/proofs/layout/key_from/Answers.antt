@@ -5,6 +5,6 @@ use Rattle.c_layout.proofs.layout.key_from.Goals as goal
 pub returns : goal.returns
 unfolding key_from_of
 returns c = simp (
-      c.octets-o.ensures,
-      c.octet-width.ensures,
-    )
+  c.octets-o.ensures,
+  c.octet-width.ensures,
+)

@@ -8,10 +8,11 @@ use borrow.Author.Rules.{rules}
 use Rattle.c_layout.proofs.layout.put_descriptors.Goals as goal
 
 pub returns : goal.returns
-returns c = let third = c in
-    let second = third.before in
-    let first = second.before in
-    let start = first.before in
-    let ds = start.args.ds in
-    let s : length ds ≡ 4 = search (rules, start.well-formed, start.ranges) in  record { put = put_as (laid_four ds s) (then_put first.put_descriptor-a.ensures.put (then_put second.put_descriptor-b.ensures.put
-          (then_put third.put_descriptor-c.ensures.put c.put_descriptor.ensures.put))); value = omega arith }
+returns c =
+    let ds = c.args.ds in
+    let s : length ds ≡ 4 = search rules in
+    record {
+      put = put_as (laid_four ds s)
+          (then_put c.put_descriptor-a.ensures.put (then_put c.put_descriptor-b.ensures.put (then_put c.put_descriptor-c.ensures.put c.put_descriptor.ensures.put)));
+      value = omega arith;
+    }

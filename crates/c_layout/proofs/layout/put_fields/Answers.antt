@@ -6,4 +6,4 @@ use Rattle.c_layout.proofs.layout.put_fields.Goals as goal
 
 pub returns : goal.returns
 unfolding fields_octets
-returns c =  record { put = then_put c.put_head-a.ensures.put (then_put c.put_descriptors-b.ensures.put (then_put c.put_params-c.ensures.put c.put_params.ensures.put)); value = omega arith }
+returns c = record { put = then_put c.put_head-a.ensures.put (then_put c.put_descriptors-b.ensures.put (then_put c.put_params-c.ensures.put c.put_params.ensures.put)); value = omega arith }

@@ -6,4 +6,4 @@ use Rattle.c_layout.proofs.layout.put_head.Goals as goal
 
 pub returns : goal.returns
 unfolding head_laid two four
-returns c =  record { put = c.put_octets.ensures; value = omega arith }
+returns c = record { put = c.put_octets.ensures; value = omega arith }

@@ -10,4 +10,4 @@ use Rattle.c_layout.proofs.layout.put_key.Goals as goal
 pub returns : goal.returns
 unfolding key_laid
 returns c = let l : length c.args.k.octets ≡ 16 = search rules in
-     record { put = then_put c.put_octets-a.ensures c.put_octets.ensures; value = omega arith }
+    record { put = then_put c.put_octets-a.ensures c.put_octets.ensures; value = omega arith }

@@ -7,4 +7,4 @@ use Rattle.c_layout.proofs.layout.put_params.Goals as goal
 
 pub returns : goal.returns
 unfolding params_laid four
-returns c =  record { put = then_put c.put_octets-a.ensures (then_put c.put_key-b.ensures.put c.put_key.ensures.put); value = omega arith }
+returns c = record { put = then_put c.put_octets-a.ensures (then_put c.put_key-b.ensures.put c.put_key.ensures.put); value = omega arith }

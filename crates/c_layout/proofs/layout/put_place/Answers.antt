@@ -6,4 +6,4 @@ use Rattle.c_layout.proofs.layout.put_place.Goals as goal
 
 pub returns : goal.returns
 unfolding place_laid two
-returns c =  record { put = c.put_octets.ensures; value = omega arith }
+returns c = record { put = c.put_octets.ensures; value = omega arith }
