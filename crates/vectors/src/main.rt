@@ -4,7 +4,6 @@
 
 use check::same;
 use key_traffic::suites::{SUITE_DES, WIDTH_DES};
-use libc::STDOUT_FILENO;
 use message_attributes::octets::part;
 use message_digest::digest::is_digest_right;
 use message_reader::read::read_alone;
@@ -14,6 +13,7 @@ use message_rules::codes::{
 use message_rules::fields::{Descriptor, Fields, KeyOctets, Params, Place, Receiver};
 use message_writer::write::write;
 use questions::refusal::{Answer, DONE, answer_number};
+use std::io::{Print, Stdout};
 
 // What all three messages carry.
 const AK_NUMBER: u8 = 7;
@@ -49,14 +49,19 @@ const I6_NEWER_NUMBER: u8 = 3;
 
 const I6_NEWER_LIFE: u64 = 86400;
 
-fn say(name: &[u8], what: &[u8], is_so: bool) {
-    io::write_all(STDOUT_FILENO, name);
-    io::write_all(STDOUT_FILENO, what);
+// Puts octets out. That it fails is not looked at.
+fn put(to: &Stdout, octets: &[u8]) {
+    let _ = to.write_all(octets);
+}
+
+fn say(to: &Stdout, name: &[u8], what: &[u8], is_so: bool) {
+    put(to, name);
+    put(to, what);
     if is_so {
-        io::write_all(STDOUT_FILENO, b" agrees\n");
+        put(to, b" agrees\n");
         return;
     }
-    io::write_all(STDOUT_FILENO, b" differs\n");
+    put(to, b" differs\n");
 }
 
 // Whether a TEK or a vector has 8 octets, with zeros after them.
@@ -83,41 +88,56 @@ fn is_zero(d: Descriptor) -> bool {
 }
 
 // What every message of these carries, and the error, which none does.
-fn compare_head(name: &[u8], f: Fields, answer: Answer, code: u8, identifier: u8) {
+fn compare_head(to: &Stdout, name: &[u8], f: Fields, answer: Answer, code: u8, identifier: u8) {
     say(
+        to,
         name,
         b"answer of the reading",
         answer_number(answer) == DONE,
     );
-    say(name, b"code", f.code == code);
-    say(name, b"identifier", f.identifier == identifier);
-    say(name, b"authorization key number", f.ak.0 == AK_NUMBER);
-    say(name, b"error (not carried)", f.error == 0);
+    say(to, name, b"code", f.code == code);
+    say(to, name, b"identifier", f.identifier == identifier);
+    say(to, name, b"authorization key number", f.ak.0 == AK_NUMBER);
+    say(to, name, b"error (not carried)", f.error == 0);
 }
 
-fn compare_params(name: &[u8], p: Params, number: u8, life: u64, tek: &[u8], vector: &[u8]) {
+fn compare_params(
+    to: &Stdout,
+    name: &[u8],
+    p: Params,
+    number: u8,
+    life: u64,
+    tek: &[u8],
+    vector: &[u8],
+) {
     let own_tek = p.tek;
     let own_vector = p.vector;
-    say(name, b"number", p.number.0 == number);
-    say(name, b"life", p.life == life);
-    say(name, b"TEK", has_octets(own_tek, tek));
-    say(name, b"vector", has_octets(own_vector, vector));
+    say(to, name, b"number", p.number.0 == number);
+    say(to, name, b"life", p.life == life);
+    say(to, name, b"TEK", has_octets(own_tek, tek));
+    say(to, name, b"vector", has_octets(own_vector, vector));
 }
 
-fn compare_no_params(name: &[u8], f: Fields) {
+fn compare_no_params(to: &Stdout, name: &[u8], f: Fields) {
     let older = f.older;
     let newer = f.newer;
     say(
+        to,
         name,
         b"TEK-Parameters (not carried)",
         is_empty(older) & is_empty(newer),
     );
 }
 
-fn compare_no_descriptors(name: &[u8], f: Fields) {
+fn compare_no_descriptors(to: &Stdout, name: &[u8], f: Fields) {
     let all = f.descriptors;
     let none = is_zero(all[0]) & is_zero(all[1]) & is_zero(all[2]) & is_zero(all[3]);
-    say(name, b"SA-Descriptors (not carried)", none & (f.count == 0));
+    say(
+        to,
+        name,
+        b"SA-Descriptors (not carried)",
+        none & (f.count == 0),
+    );
 }
 
 // Whether the fields are written as `m`, octet for octet, with the digest that `key` gives.
@@ -132,29 +152,37 @@ fn is_written_again(f: Fields, auth_key: &[u8], key: &[u8], m: &[u8]) -> bool {
 }
 
 // Its digest holds under the message key of its direction, and not under the other's.
-fn compare_digest(name: &[u8], m: &[u8], digest: Place, key: &[u8], other: &[u8]) {
-    say(name, b"digest", is_digest_right(m, digest, key));
+fn compare_digest(to: &Stdout, name: &[u8], m: &[u8], digest: Place, key: &[u8], other: &[u8]) {
+    say(to, name, b"digest", is_digest_right(m, digest, key));
     let differs = !is_digest_right(m, digest, other);
-    say(name, b"digest under the other key (fails)", differs);
+    say(to, name, b"digest under the other key (fails)", differs);
 }
 
 // The one SA-Descriptor of I.4.
-fn compare_descriptor(name: &[u8], f: Fields) {
+fn compare_descriptor(to: &Stdout, name: &[u8], f: Fields) {
     let all = f.descriptors;
     let first = all[0];
-    say(name, b"count of SA-Descriptors", f.count == I4_DESCRIPTORS);
-    say(name, b"SAID of the SA-Descriptor", first.said == SAID);
     say(
+        to,
+        name,
+        b"count of SA-Descriptors",
+        f.count == I4_DESCRIPTORS,
+    );
+    say(to, name, b"SAID of the SA-Descriptor", first.said == SAID);
+    say(
+        to,
         name,
         b"SA type of the SA-Descriptor",
         first.kind == I4_SA_TYPE,
     );
     say(
+        to,
         name,
         b"suite of the SA-Descriptor",
         first.suite == SUITE_DES,
     );
     say(
+        to,
         name,
         b"other three SA-Descriptors (not carried)",
         is_zero(all[1]) & is_zero(all[2]) & is_zero(all[3]),
@@ -164,44 +192,61 @@ fn compare_descriptor(name: &[u8], f: Fields) {
 // I.4. `m` has its octets, `auth_key` those of I.4.2. Most rows of the AUTH-Key are lost in this copy of I.4, and were taken from I.4.2; what is left of them
 // agrees. In I.4.2 letters stand for digits too: G for the 6 of e6, Greek and Cyrillic ones elsewhere; the second octet of each row is
 // printed over two columns, as 7e B 39 for 7e b9, which I.4 has whole. In the life of I.4 a letter stands for the 3 of 3a.
-fn authorization_reply(m: &[u8], auth_key: &[u8], down: &[u8]) {
+fn authorization_reply(to: &Stdout, m: &[u8], auth_key: &[u8], down: &[u8]) {
     let name = b"I.4 Authorization Reply: ";
     let r = read_alone(Receiver::Modem, m);
     let answer = r.answer;
     let f = r.fields;
     let key = r.key;
     let digest = r.digest;
-    compare_head(name, f, answer, CODE_AUTHORIZATION_REPLY, I4_IDENTIFIER);
-    say(name, b"life", f.life == I4_LIFE);
-    say(name, b"SAID (not carried)", f.said == 0);
-    compare_descriptor(name, f);
-    compare_no_params(name, f);
+    compare_head(to, name, f, answer, CODE_AUTHORIZATION_REPLY, I4_IDENTIFIER);
+    say(to, name, b"life", f.life == I4_LIFE);
+    say(to, name, b"SAID (not carried)", f.said == 0);
+    compare_descriptor(to, name, f);
+    compare_no_params(to, name, f);
     say(
+        to,
         name,
         b"AUTH-Key's place",
         is_at(key, I4_AUTH_KEY_START, I4_AUTH_KEY_OCTETS),
     );
     say(
+        to,
         name,
         b"AUTH-Key",
         same(part(m, key.start, key.len), auth_key),
     );
-    say(name, b"digest's place (not carried)", is_at(digest, 0, 0));
+    say(
+        to,
+        name,
+        b"digest's place (not carried)",
+        is_at(digest, 0, 0),
+    );
     let again = is_written_again(f, auth_key, down, m);
-    say(name, b"message written again", again);
+    say(to, name, b"message written again", again);
 }
 
 // What I.5 and I.6 share: Identifier, SAID, and no life and no descriptors.
-fn compare_front(name: &[u8], f: Fields, answer: Answer, code: u8) {
-    compare_head(name, f, answer, code, KEY_IDENTIFIER);
-    say(name, b"life (not carried)", f.life == 0);
-    say(name, b"SAID", f.said == SAID);
-    compare_no_descriptors(name, f);
+fn compare_front(to: &Stdout, name: &[u8], f: Fields, answer: Answer, code: u8) {
+    compare_head(to, name, f, answer, code, KEY_IDENTIFIER);
+    say(to, name, b"life (not carried)", f.life == 0);
+    say(to, name, b"SAID", f.said == SAID);
+    compare_no_descriptors(to, name, f);
 }
 
-fn compare_places(name: &[u8], key: Place, digest: Place, at: usize) {
-    say(name, b"AUTH-Key's place (not carried)", is_at(key, 0, 0));
-    say(name, b"digest's place", is_at(digest, at, DIGEST_OCTETS));
+fn compare_places(to: &Stdout, name: &[u8], key: Place, digest: Place, at: usize) {
+    say(
+        to,
+        name,
+        b"AUTH-Key's place (not carried)",
+        is_at(key, 0, 0),
+    );
+    say(
+        to,
+        name,
+        b"digest's place",
+        is_at(digest, at, DIGEST_OCTETS),
+    );
 }
 
 // I.5. `m` has its octets. In this copy letters stand for digits: Cyrillic ones in ca, a6 and e6, and l for the 1 of the digest's a1.
@@ -209,27 +254,29 @@ fn compare_places(name: &[u8], key: Place, digest: Place, at: usize) {
 // 9e are lost and 22 stands in front: its 20 octets are taken from I.5.1. The public key's modulus begins with e0 once in this copy and twice in
 // the input of I.5.1: taken as twice, as its length of 140 asks, and the digest that I.5.1 gives is that of these octets.
 // `standard` is the message without its CM-Identification, which the writer does not write; its digest was worked out by another program.
-fn key_request(m: &[u8], standard: &[u8], up: &[u8], down: &[u8]) {
+fn key_request(to: &Stdout, m: &[u8], standard: &[u8], up: &[u8], down: &[u8]) {
     let name = b"I.5 Key Request: ";
     let r = read_alone(Receiver::HeadEnd, m);
     let answer = r.answer;
     let f = r.fields;
     let key = r.key;
     let digest = r.digest;
-    compare_front(name, f, answer, CODE_KEY_REQUEST);
-    compare_no_params(name, f);
-    compare_places(name, key, digest, I5_DIGEST_START);
-    compare_digest(name, m, digest, up, down);
+    compare_front(to, name, f, answer, CODE_KEY_REQUEST);
+    compare_no_params(to, name, f);
+    compare_places(to, name, key, digest, I5_DIGEST_START);
+    compare_digest(to, name, m, digest, up, down);
     let again = is_written_again(f, b"", up, standard);
     say(
+        to,
         name,
         b"message written again (without CM-Identification)",
         again,
     );
 }
 
-fn compare_older(p: Params) {
+fn compare_older(to: &Stdout, p: Params) {
     compare_params(
+        to,
         b"I.6 Key Reply: older ",
         p,
         I6_OLDER_NUMBER,
@@ -239,8 +286,9 @@ fn compare_older(p: Params) {
     );
 }
 
-fn compare_newer(p: Params) {
+fn compare_newer(to: &Stdout, p: Params) {
     compare_params(
+        to,
         b"I.6 Key Reply: newer ",
         p,
         I6_NEWER_NUMBER,
@@ -251,7 +299,7 @@ fn compare_newer(p: Params) {
 }
 
 // I.6. `m` has its octets. In this copy the letter O stands for the 0 of 0f and 0b.
-fn key_reply(m: &[u8], up: &[u8], down: &[u8]) {
+fn key_reply(to: &Stdout, m: &[u8], up: &[u8], down: &[u8]) {
     let name = b"I.6 Key Reply: ";
     let r = read_alone(Receiver::Modem, m);
     let answer = r.answer;
@@ -260,17 +308,18 @@ fn key_reply(m: &[u8], up: &[u8], down: &[u8]) {
     let digest = r.digest;
     let older = f.older;
     let newer = f.newer;
-    compare_front(name, f, answer, CODE_KEY_REPLY);
-    compare_older(older);
-    compare_newer(newer);
-    compare_places(name, key, digest, I6_DIGEST_START);
-    compare_digest(name, m, digest, down, up);
+    compare_front(to, name, f, answer, CODE_KEY_REPLY);
+    compare_older(to, older);
+    compare_newer(to, newer);
+    compare_places(to, name, key, digest, I6_DIGEST_START);
+    compare_digest(to, name, m, digest, down, up);
     let again = is_written_again(f, b"", down, m);
-    say(name, b"message written again", again);
+    say(to, name, b"message written again", again);
 }
 
 // The message keys of both directions are as I.4.3 prints them: 64 octets of padding before the AK give these, the 63 that its text tells do not.
-fn main() {
+fn main(rt: HostRuntime) {
+    let to = rt.stdout();
     let up = b"\xfe\xb9\xf1\xe2\x46\xa7\x6d\x7c\xa7\x7b\x5e\xb0\x98\x25\xfd\x0b\x57\xca\x90\xc7";
     let down = b"\x93\xd3\x9d\x70\xc3\xb6\xf5\x92\xc4\x6b\xd3\x92\x76\x46\xf4\xf1\x90\x3a\x52\xfd";
     let auth_key =
@@ -283,7 +332,7 @@ fn main() {
         b"\x07\x73\x00\x20\x0a\x00\x01\x07\x0c\x00\x02\x22\x60\x0b\x00\x14\x67\x6d\x60\x32\xcb\x3c\x81\x73\x9c\xbd\x77\x2e\xfe\x8f\xee\x49\x9a\x4b\xde\x62";
     let i6 =
         b"\x08\x73\x00\x68\x0a\x00\x01\x07\x0c\x00\x02\x22\x60\x0d\x00\x21\x08\x00\x08\xb6\x4d\x54\x8c\x3f\x6b\x25\x69\x09\x00\x04\x00\x00\xa8\xc0\x0a\x00\x01\x02\x0f\x00\x08\x81\x0e\x52\x8e\x1c\x5f\xda\x1a\x0d\x00\x21\x08\x00\x08\x5e\xbd\x03\xaa\x5e\xd5\xe2\x94\x09\x00\x04\x00\x01\x51\x80\x0a\x00\x01\x03\x0f\x00\x08\x25\x35\x67\xc3\x09\x21\x8c\x2c\x0b\x00\x14\xa5\xe3\x33\x25\xea\x72\xf8\x50\x1c\x2a\xb6\x65\x45\x6b\xcc\xde\x8b\x4f\x22\x02";
-    authorization_reply(i4, auth_key, down);
-    key_request(i5, standard, up, down);
-    key_reply(i6, up, down);
+    authorization_reply(&to, i4, auth_key, down);
+    key_request(&to, i5, standard, up, down);
+    key_reply(&to, i6, up, down);
 }
