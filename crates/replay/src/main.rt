@@ -2,7 +2,7 @@
 // implementation can be held against the engine call by call. Its promise: with `line::take_line`, the state after any line and the text
 // that it answers are those of specs/Replay.antt, over specs/Turn.antt for a line that is a call. What a line may say is `replay_read`'s, one
 // call applied to both ends and the records `replay_apply`'s. Here lines are cut out of the input, and the answers written. No contract can say
-// which octets the C library's calls read and write.
+// which octets are read from standard input and written to standard output.
 
 #![tactic(auto)]
 
@@ -18,12 +18,15 @@ ghost use Rattle.replay.specs.Fed.{kept, fed_by, fed_all, pending_in, Fed};
 use crate::line::take_line;
 use crate::lines::put_end;
 use crate::start::{Replay, begin};
-use libc::{STDIN_FILENO, STDOUT_FILENO};
 use replay_answer::answer::ANSWER_LINE;
+use std::io::{Print, Read, Stdin, Stdout};
 use text::characters::LINE_FEED;
 
 // Characters that are kept of a line: one more than the longest that is read, so that a longer one is known by its length.
 const LINE_KEPT: usize = 16385;
+
+// Characters that are read at a time.
+const INPUT_READ: usize = 4096;
 
 // A run, and how many characters of the line that comes stand in the slice lent for it.
 #[derive(Clone, Copy)]
@@ -32,14 +35,14 @@ struct Reading {
     count: usize,
 }
 
-// A line is over: what is answered to it is written.
-fn answer(s: Replay, line: &[u8]) -> Replay
+// A line is over: what is answered to it is written. That writing fails is not looked at.
+fn answer(to: &Stdout, s: Replay, line: &[u8]) -> Replay
     ensures { result ≡ after_line s line.now }
 {
     let mut space = [0u8; ANSWER_LINE];
     let t = take_line(s, line, &mut space);
     let n = t.count;
-    io::write_all(STDOUT_FILENO, &space[..n]);
+    let _ = to.write_all(&space[..n]);
     t.replay
 }
 
@@ -56,12 +59,12 @@ fn keep(count: usize, line: &mut [u8], b: u8) -> usize
 }
 
 // A character of the input.
-fn take_octet(s: Replay, count: usize, line: &mut [u8], b: u8) -> Reading
+fn take_octet(to: &Stdout, s: Replay, count: usize, line: &mut [u8], b: u8) -> Reading
     requires { (count ≤ 16385) × (16385 ≤ length line.old) }
     ensures { Fed (fed_by (pending_in s count line.old) b) result line.new }
 {
     if b == LINE_FEED {
-        let replay = answer(s, &line[..count]);
+        let replay = answer(to, s, &line[..count]);
         return Reading {
             replay: replay,
             count: 0,
@@ -75,7 +78,7 @@ fn take_octet(s: Replay, count: usize, line: &mut [u8], b: u8) -> Reading
 }
 
 // The characters of some input.
-fn feed(s: Replay, count: usize, input: &[u8], line: &mut [u8]) -> Reading
+fn feed(to: &Stdout, s: Replay, count: usize, input: &[u8], line: &mut [u8]) -> Reading
     requires { (count ≤ 16385) × (16385 ≤ length line.old) }
     ensures { Fed (fed_all (pending_in s count line.old) input.now) result line.new }
 {
@@ -83,7 +86,7 @@ fn feed(s: Replay, count: usize, input: &[u8], line: &mut [u8]) -> Reading
     let mut n = count;
     let mut i: usize = 0;
     while i < input.len() {
-        let r = take_octet(replay, n, line, input[i]);
+        let r = take_octet(to, replay, n, line, input[i]);
         replay = r.replay;
         n = r.count;
         i += 1;
@@ -95,17 +98,17 @@ fn feed(s: Replay, count: usize, input: &[u8], line: &mut [u8]) -> Reading
 }
 
 // What is answered at the end of the input; the last line may lack its line feed.
-fn finish(s: Replay, line: &[u8]) {
+fn finish(to: &Stdout, s: Replay, line: &[u8]) {
     let mut replay = s;
     if 0 < line.len() {
-        replay = answer(replay, line);
+        replay = answer(to, replay, line);
     }
     let mut space = [0u8; ANSWER_LINE];
     let n = put_end(replay, &mut space);
-    io::write_all(STDOUT_FILENO, &space[..n]);
+    let _ = to.write_all(&space[..n]);
 }
 
-// A run after some input, and whether there was any.
+// A run after some input, and whether there was any; a read that fails gives none.
 #[derive(Clone, Copy)]
 struct Chunk {
     is_more: bool,
@@ -113,14 +116,13 @@ struct Chunk {
     count: usize,
 }
 
-fn read_some(s: Replay, count: usize, line: &mut [u8]) -> Chunk
+fn read_some(mut from: Stdin, to: &Stdout, s: Replay, count: usize, line: &mut [u8]) -> Chunk
     requires { (count ≤ 16385) × (16385 ≤ length line.old) }
     ensures { result.count ≤ 16385 }
 {
-    let mut input = io::buffer();
-    let got = libc::read(STDIN_FILENO, &mut input);
-    let k = io::count(got, &input);
-    let r = feed(s, count, &input[..k], line);
+    let mut input = [0u8; INPUT_READ];
+    let k = from.read(&mut input).unwrap_or(0);
+    let r = feed(to, s, count, &input[..k], line);
     let replay = r.replay;
     Chunk {
         is_more: 0 < k,
@@ -141,16 +143,18 @@ fn turns_left(turns: u64, is_more: bool) -> u64
 }
 
 // A proved loop has to end, and nothing says that the input does: the turns are counted down from a number that no run uses up.
-fn main() {
+fn main(rt: HostRuntime) {
+    let from = rt.stdin();
+    let to = rt.stdout();
     let mut line = [0u8; LINE_KEPT];
     let mut replay = begin();
     let mut count: usize = 0;
     let mut turns = u64::MAX;
     while 0 < turns {
-        let r = read_some(replay, count, &mut line);
+        let r = read_some(from, &to, replay, count, &mut line);
         replay = r.replay;
         count = r.count;
         turns = turns_left(turns, r.is_more);
     }
-    finish(replay, &line[..count]);
+    finish(&to, replay, &line[..count]);
 }

@@ -18,7 +18,7 @@ loop-i-preserved c = let l = c.loop-i in (
       (
         c.take_octet-r.ensures.short,
         (
-          c.line-1.given ∙ l.invariant.1.1.0,
+          c.take_octet-r.auto.line ∙ l.invariant.1.1.0,
           fed_next (pending_in l.replay l.n l.line) _ l.i c.args.input.now _ c.loop-i-test.true c.take_octet-r.ensures.is l.invariant.1.1.1,
         ),
       ),

@@ -5,4 +5,4 @@ use lib.Seq.{length-take-le}
 use Rattle.replay.proofs.finish.Goals as goal
 
 pub slice_bounds-write_all-end : goal.slice_bounds-write_all-end
-slice_bounds-write_all-end c = sym (length-take-le _ _ (omega (arith, c.put_end-n.ensures.1.1, c.space-2-1.given)))
+slice_bounds-write_all-end c = sym (length-take-le _ _ (omega (arith, c.put_end-n.ensures.1.1, c.put_end-n.auto.out)))

@@ -4,8 +4,5 @@ use native.Mathlib.Omega.{arith}
 use lib.Seq.{length-take-le}
 use Rattle.replay.proofs.main.Goals as goal
 
-pub slice_bounds-read_some-end : goal.slice_bounds-read_some-end
-slice_bounds-read_some-end c = c.loop-turns.invariant.1
-
 pub slice_bounds-finish-end : goal.slice_bounds-finish-end
 slice_bounds-finish-end c = sym (length-take-le _ _ (omega (arith, c.loop-turns.invariant.0, c.loop-turns.invariant.1)))

@@ -7,10 +7,10 @@ pub put_given-n-requires : goal.put_given-n-requires
 put_given-n-requires c = let a = c.args in
     let r = c.apply-a in
     let pre = c.requires in
-    given_fits a.e a.c a.octets.now a.auth.now a.read.now a.write.now a.frame.now r.result _ _ _ _ r.ensures.0 r.ensures.1 r.ensures.2 r.ensures.3 r.ensures.4 _ c.tek-2-1.given c.vector-2-1.given c.sent-2-1.given (omega (arith, c.frame-1.given, pre.0)) pre.1
+    given_fits a.e a.c a.octets.now a.auth.now a.read.now a.write.now a.frame.now r.result _ _ _ _ r.ensures.0 r.ensures.1 r.ensures.2 r.ensures.3 r.ensures.4 _ c.apply-a.auto.tek c.apply-a.auto.vector c.apply-a.auto.sent (omega (arith, c.apply-a.auto.frame, pre.0)) pre.1
 
 pub returns : goal.returns
 returns c = let a = c.args in
     let r = c.apply-a in
     let put = c.put_given-n.ensures in
-     record { answers_step = step_answered a.e a.c a.octets.now a.auth.now a.read.now a.write.now a.frame.now r.result _ _ _ _ r.ensures.0 r.ensures.1 r.ensures.2 r.ensures.3 r.ensures.4 _ _ _ _ put.0; count_le_answer_line = put.1 }
+     record { answers_step = step_answered a.e a.c a.octets.now a.auth.now a.read.now a.write.now a.frame.now r.result _ _ _ _ r.ensures.0 r.ensures.1 r.ensures.2 r.ensures.3 r.ensures.4 _ _ _ _ put.puts_given; count_le_answer_line = put.upper_bound }
