@@ -2,6 +2,7 @@
 use Rattle.modem_calls.proofs.AnswerLaws.{event_there, out_there}
 use Rattle.modem_limits.specs.Limits.{modem_fits_of}
 use mathlib.Core.Bool.{true, false}
+use mathlib.Core.List.{[]}
 use mathlib.Core.Path.{◌≡◌, refl, sym, ◌∙◌}
 use Rattle.modem_calls.proofs.AnswerLaws.{refused_by, done_by, limits_no, length_no, first_met}
 use Rattle.modem_calls.proofs.SentFits.{plain_out}

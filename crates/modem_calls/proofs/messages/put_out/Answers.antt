@@ -2,7 +2,7 @@
 use lib.Seq.{length-sets}
 use Rattle.modem_calls.proofs.OutLaws.{out_short}
 use Rattle.modem_calls.proofs.PutLaws.{put_more, length_more, put_all}
-use Prim.Native.Nat.{ℕ, ◌-◌, ◌≤◌, ◌<◌}
+use Prim.Native.Nat.{ℕ, ◌≤◌, ◌<◌}
 use mathlib.Core.Path.{◌≡◌, refl, ◌∙◌, ap}
 use native.Mathlib.Omega.{arith}
 use lib.ListN.{length, take}

@@ -25,5 +25,5 @@ put_out-n-requires c = let x = c.args in
 pub returns : goal.returns
 returns c = let x = c.args in
     let is = deliver_slot x.m x.said c.start.result c.deliver-w.result c.slot_of_said-i.result c.start.ensures c.slot_of_said-i.ensures.0 c.deliver-w.ensures.0 in
-    missing_done x.m x.said x.a x.write-key.now x.out.now c.deliver-w.result c.counted-next.result c.put_out-n.result c.opened_call.result _ is
+    missing_done x.m x.said x.a x.write_key.now x.out.now c.deliver-w.result c.counted-next.result c.put_out-n.result c.opened_call.result _ is
     c.counted-next.ensures c.put_out-n.ensures.1 c.opened_call.ensures c.put_out-n.ensures.0
