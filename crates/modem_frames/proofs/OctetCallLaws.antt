@@ -1,13 +1,12 @@
 -- The calls on a frame's octets by what their parts found: the SAID's machine, the answer, and the octets written.
 use mathlib.Core.Path.{◌≡◌, refl, sym, ◌∙◌, ap, subst}
 use mathlib.Core.Bool.{Bool, true, false}
-use mathlib.Core.List.{List, []}
+use mathlib.Core.List.{List}
 use Prim.Native.Nat.{ℕ, ◌≤◌}
 use native.Mathlib.Omega.{arith}
 use lib.ListN.{length}
 use Rattle.key_traffic.specs.declared.numbers.TekNumber.{TekNumber}
 use Rattle.key_traffic.specs.declared.frame.Opening.{Opening}
-use Rattle.key_traffic.specs.declared.sealing.SealedCall.{SealedCall}
 use Rattle.questions.specs.declared.refusal.Answer.{Answer}
 use Rattle.questions.specs.declared.refusal.Answer.TheVariants.{Done, Refused}
 use Rattle.key_traffic.specs.Frame.{opens}

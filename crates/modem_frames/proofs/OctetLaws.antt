@@ -2,12 +2,12 @@
 use mathlib.Core.Path.{◌≡◌, refl, sym, ◌∙◌, ap}
 use mathlib.Core.Bool.{Bool, true, false, ◌&&◌, cond, and-true, and-false}
 use mathlib.Core.Logic.{◌⊎◌, inl, inr}
-use mathlib.Core.List.{List, [], ◌∷◌}
-use Prim.Native.Nat.{ℕ, ◌≤◌, ◌<◌}
+use mathlib.Core.List.{List}
+use Prim.Native.Nat.{ℕ, ◌≤◌}
 use native.Mathlib.Omega.{arith}
-use lib.Dec.{leb, ltb, eqb}
+use lib.Dec.{leb, eqb}
 use lib.ListN.{length}
-use borrow.Author.Tests.{leb-true, lt-ltb, le-leb, eqb-true, eq-eqb}
+use borrow.Author.Tests.{leb-true, le-leb, eqb-true, eq-eqb}
 use Rattle.key_traffic.specs.declared.numbers.TekNumber.{TekNumber}
 use Rattle.key_traffic.specs.Addresses.{address_fits_of}
 use Rattle.questions.specs.declared.refusal.Answer.{Answer}
@@ -16,7 +16,7 @@ use Rattle.questions.specs.declared.refusal.Refusal.{Refusal}
 use Rattle.questions.specs.declared.refusal.Refusal.TheVariants.{OutOfLimits, WrongLength, UnknownSaid, NoKeyForFrame, NoKeyToSeal, ShortFrame}
 use Rattle.key_traffic.specs.Numbers.{tek_in_range_of}
 use Rattle.key_traffic.specs.Suites.{width_of}
-use Rattle.key_traffic.specs.Sealing.{Sealed, sealed_for}
+use Rattle.key_traffic.specs.Sealing.{sealed_for}
 use Rattle.questions.specs.Refusal.{answer_number_of}
 use Rattle.questions.proofs.TestLaws.{both}
 use Rattle.frame_octets.specs.Framed.{suite_seals_of}
@@ -28,7 +28,7 @@ use Rattle.modem_steps.specs.State.{no_tek_of}
 use Rattle.modem_receive.specs.Receive.{is_known_of}
 use Rattle.modem_limits.specs.Limits.{modem_fits_of}
 use Rattle.modem_frames.specs.FrameRules.{pair_seals, pair_opens}
-use Rattle.modem_frames.specs.Frames.{machine_of, can_seal_of, can_open_of, seal_asked_of, seal_answer_of, seal_of, open_asked_of, open_answer_of, ModemOpened, opened_for, open_of}
+use Rattle.modem_frames.specs.Frames.{machine_of, can_seal_of, can_open_of, seal_asked_of, seal_answer_of, seal_of, open_asked_of, open_answer_of, open_of}
 use Rattle.modem_frames.specs.OctetFrames.{seal_frame_asked_of, open_frame_asked_of, seal_frame_answer_of, seal_frame_value, open_frame_answer_of, open_frame_value}
 use Rattle.modem_frames.specs.FrameCalled.{known_machine}
 use Rattle.modem_frames.proofs.FrameLaws.{frame_in, sealed_done, frame-fits}

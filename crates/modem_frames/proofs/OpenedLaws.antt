@@ -1,5 +1,5 @@
 -- What an opening of either kind, by key or in octets, leaves of the modem: by its answer alone.
-use mathlib.Core.Path.{◌≡◌, refl, ap}
+use mathlib.Core.Path.{◌≡◌, refl}
 use mathlib.Core.Bool.{Bool, true, false, ◌||◌, cond}
 use mathlib.Core.List.{List, []}
 use Prim.Native.Nat.{ℕ}
