@@ -69,12 +69,12 @@ module _ (m : Modem) (said : ℕ) (frame : List ℕ) where
       × (sealed-after ≡ overlay sealed (seal_frame_value m said frame (length sealed)).octets)
   seal_frame_says sealed sealed-after r h = h
 
-  pub open_frame_says : (direction address : ℕ) (number : TekNumber) (write opened out Opened-after out-after : List ℕ) (r : ModemOpening)
-      → ModemOpensOctets (open_frame_value m direction address said number frame write (length opened) (length out)) opened out r Opened-after out-after
+  pub open_frame_says : (direction address : ℕ) (number : TekNumber) (write opened out opened-after out-after : List ℕ) (r : ModemOpening)
+      → ModemOpensOctets (open_frame_value m direction address said number frame write (length opened) (length out)) opened out r opened-after out-after
       → (r ≡ modem_opening_of (open_frame_called_of (open_frame_value m direction address said number frame write (length opened) (length out))))
-      × (Opened-after ≡ overlay opened (open_frame_value m direction address said number frame write (length opened) (length out)).octets)
+      × (opened-after ≡ overlay opened (open_frame_value m direction address said number frame write (length opened) (length out)).octets)
       × (out-after ≡ overlay out (open_frame_value m direction address said number frame write (length opened) (length out)).opened.sent)
-  open_frame_says direction address number write opened out Opened-after out-after r h = h
+  open_frame_says direction address number write opened out opened-after out-after r h = h
 
 -- ---- the head-end
 
@@ -116,10 +116,10 @@ module _ (h : HeadEnd) (records : List Assoc) (address : ℕ) where
       × (sealed-after ≡ overlay sealed (HeadFrames.seal_frame_value h records address said frame (length sealed)).octets)
   head_seal_frame_says said frame sealed sealed-after r k = k
 
-  pub head_open_frame_says : (direction said : ℕ) (number : TekNumber) (frame write opened invalid Opened-after invalid-after : List ℕ) (r : HeadEndOpening)
+  pub head_open_frame_says : (direction said : ℕ) (number : TekNumber) (frame write opened invalid opened-after invalid-after : List ℕ) (r : HeadEndOpening)
       → C.HeadEndOpensOctets (HeadFrames.open_frame_value h records direction address said number frame write (length opened) (length invalid)) opened invalid r
-      Opened-after invalid-after
+      opened-after invalid-after
       → (r ≡ C.head_end_opening (HeadOctets.open_frame_called_of (HeadFrames.open_frame_value h records direction address said number frame write (length opened) (length invalid))))
-      × (Opened-after ≡ overlay opened (HeadFrames.open_frame_value h records direction address said number frame write (length opened) (length invalid)).octets)
+      × (opened-after ≡ overlay opened (HeadFrames.open_frame_value h records direction address said number frame write (length opened) (length invalid)).octets)
       × (invalid-after ≡ overlay invalid (HeadFrames.open_frame_value h records direction address said number frame write (length opened) (length invalid)).opened.invalid)
-  head_open_frame_says direction said number frame write opened invalid Opened-after invalid-after r k = k
+  head_open_frame_says direction said number frame write opened invalid opened-after invalid-after r k = k

@@ -5,6 +5,7 @@ use Rattle.questions.specs.Refusal.{answer_number_of}
 use Rattle.headend_state.specs.declared.state.Called.{Called}
 use Rattle.headend_frames.specs.declared.frames.OpenedCall.{OpenedCall}
 use Rattle.curlewreel.specs.declared.headend_values.HeadEndCall.{HeadEndCall}
+use Rattle.curlewreel.specs.declared.headend_values.HeadEndOpening.{HeadEndOpening}
 use Rattle.curlewreel.specs.HeadEndCalls.{head_end_call, head_end_opening}
 
 pub head_numbered : (c : Called) (n : ℕ) → n ≡ answer_number_of c.answer → record { number = n; count = c.count; headend = c.state } ≡ head_end_call c
@@ -15,3 +16,6 @@ head_handed c d r e f = e ∙ ap head_end_call f
 
 pub head_opened : (c : OpenedCall) (n : ℕ) → n ≡ answer_number_of c.answer → record { number = n; width = c.width; count = c.count; headend = c.state } ≡ head_end_opening c
 head_opened c n e = ap (λ k. record { number = k; width = c.width; count = c.count; headend = c.state }) e
+
+pub head_opened_as : (c d : OpenedCall) (r : HeadEndOpening) → r ≡ head_end_opening c → c ≡ d → r ≡ head_end_opening d
+head_opened_as c d r e f = e ∙ ap head_end_opening f

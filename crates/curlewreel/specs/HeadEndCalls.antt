@@ -47,7 +47,7 @@ HeadEndOpens g tek vector invalid r tek-after vector-after invalid-after =
 
 -- A frame's octets opened
 abbrev pub HeadEndOpensOctets : HeadOpenedFrame → List ℕ → List ℕ → HeadEndOpening → List ℕ → List ℕ → Type 0
-HeadEndOpensOctets g opened invalid r Opened-after invalid-after =
+HeadEndOpensOctets g opened invalid r opened-after invalid-after =
     (r ≡ head_end_opening (open_frame_called_of g))
-    × (Opened-after ≡ overlay opened g.octets)
+    × (opened-after ≡ overlay opened g.octets)
     × (invalid-after ≡ overlay invalid g.opened.invalid)

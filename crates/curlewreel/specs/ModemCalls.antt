@@ -52,7 +52,7 @@ OctetsSeal s sealed r sealed-after =
     × (sealed-after ≡ overlay sealed s.octets)
 
 abbrev pub ModemOpensOctets : ModemOpenedFrame → List ℕ → List ℕ → ModemOpening → List ℕ → List ℕ → Type 0
-ModemOpensOctets g opened out r Opened-after out-after =
+ModemOpensOctets g opened out r opened-after out-after =
     (r ≡ modem_opening_of (open_frame_called_of g))
-    × (Opened-after ≡ overlay opened g.octets)
+    × (opened-after ≡ overlay opened g.octets)
     × (out-after ≡ overlay out g.opened.sent)
