@@ -1,4 +1,3 @@
-pub mod ArrayLent
 pub mod ApplyLaws
 pub mod FrameLaws
 pub mod GaveLaws
