@@ -14,15 +14,15 @@ take_octet-r-requires c = (c.loop-i.invariant.1.0, rw c.loop-i.invariant.1.1.0 c
 
 pub loop-i-preserved : goal.loop-i-preserved
 loop-i-preserved c = let l = c.loop-i in (
-      omega (arith, c.loop-i-test.true),
-      (
-        c.take_octet-r.ensures.short,
-        (
-          c.take_octet-r.auto.line ∙ l.invariant.1.1.0,
-          fed_next (pending_in l.replay l.n l.line) _ l.i c.args.input.now _ c.loop-i-test.true c.take_octet-r.ensures.is l.invariant.1.1.1,
-        ),
-      ),
-    )
+  omega (arith, c.loop-i-test.true),
+  (
+    c.take_octet-r.ensures.short,
+    (
+      c.take_octet-r.auto.line ∙ l.invariant.1.1.0,
+      fed_next (pending_in l.replay l.n l.line) _ l.i c.args.input.now _ c.loop-i-test.true c.take_octet-r.ensures.is l.invariant.1.1.1,
+    ),
+  ),
+)
 
 pub shape_of-line : goal.shape_of-line
 shape_of-line c = c.loop-i.invariant.1.1.0

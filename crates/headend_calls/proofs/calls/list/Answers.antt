@@ -17,8 +17,8 @@ store-requires c =
     let bad = c.first-bad.ensures ∙ ap (λ (p : Probe). first_of p xs) c.out_of_limits.ensures in
     let clash = c.first-clash.ensures ∙ ap (λ (p : Probe). first_of p xs) c.one_of.ensures in
     let called = c.list_called-c.ensures
-        ∙ ap (λ (b : ℕ). list_called_of a.h a.address a.allowed a.l b c.first-clash.result (length xs) len) bad
-        ∙ ap (λ (b : ℕ). list_called_of a.h a.address a.allowed a.l (first_of (out_of_limits_of a.h) xs) b (length xs) len) clash in
+    ∙ ap (λ (b : ℕ). list_called_of a.h a.address a.allowed a.l b c.first-clash.result (length xs) len) bad
+    ∙ ap (λ (b : ℕ). list_called_of a.h a.address a.allowed a.l (first_of (out_of_limits_of a.h) xs) b (length xs) len) clash in
     let done = ap (λ (r : Called). answer_number_of r.answer) (sym called) ∙ sym c.called_number-no.ensures ∙ c.if-no-eq-DONE.true in
     subst (λ (half : ℕ). StoreFit a.h.used a.l.count half a.h.clock (length xs) len) (sym c.half_in-half.ensures)
     (list_fit a.h xs a.address a.allowed a.l a.material.now done)

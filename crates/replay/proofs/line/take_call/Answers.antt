@@ -9,4 +9,4 @@ returns c = record {
   count = c.turn-t.ensures.answers_line.1;
   short = c.turn-t.ensures.count_le_answer_line;
   written = c.turn-t.ensures.answers_line.2;
-    }
+}

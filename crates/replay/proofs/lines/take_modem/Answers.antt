@@ -11,4 +11,4 @@ returns c = record {
   count = c.put_modem-n.ensures.value.0 ∙ ap (λ x. length (modem_text x c.args.s)) c.read_modem-x.ensures;
   short = c.put_modem-n.ensures.upper_bound;
   written = c.put_modem-n.ensures.value.1 ∙ ap (λ x. overlay c.args.out.now (modem_text x c.args.s)) c.read_modem-x.ensures;
-    }
+}

@@ -13,4 +13,4 @@ returns c = record {
   count = c.put_start-n.ensures.value.0 ∙ ap (λ b. length (start_text b)) c.is_modem_names-form.ensures;
   short = c.put_start-n.ensures.upper_bound;
   written = c.put_start-n.ensures.value.1 ∙ ap (λ b. overlay c.args.out.now (start_text b)) c.is_modem_names-form.ensures;
-    }
+}

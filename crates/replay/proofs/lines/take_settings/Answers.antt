@@ -12,4 +12,4 @@ returns c = record {
   count = c.put_start-n.ensures.value.0 ∙ ap (λ (x : ReadSettings). length (start_text x.is_form)) c.read_settings-x.ensures;
   short = c.put_start-n.ensures.upper_bound;
   written = c.put_start-n.ensures.value.1 ∙ ap (λ (x : ReadSettings). overlay c.args.out.now (start_text x.is_form)) c.read_settings-x.ensures;
-    }
+}

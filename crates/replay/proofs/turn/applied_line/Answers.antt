@@ -13,4 +13,4 @@ pub returns : goal.returns
 returns c = let a = c.args in
     let r = c.apply-a in
     let put = c.put_given-n.ensures in
-     record { answers_step = step_answered a.e a.c a.octets.now a.auth.now a.read.now a.write.now a.frame.now r.result _ _ _ _ r.ensures.0 r.ensures.1 r.ensures.2 r.ensures.3 r.ensures.4 _ _ _ _ put.puts_given; count_le_answer_line = put.upper_bound }
+    record { answers_step = step_answered a.e a.c a.octets.now a.auth.now a.read.now a.write.now a.frame.now r.result _ _ _ _ r.ensures.0 r.ensures.1 r.ensures.2 r.ensures.3 r.ensures.4 _ _ _ _ put.puts_given; count_le_answer_line = put.upper_bound }

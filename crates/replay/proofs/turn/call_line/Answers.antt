@@ -31,4 +31,4 @@ pub returns : goal.returns
 returns c = let x = c.args in
     let pre = c.requires in
     let done = c.applied_line.ensures in
-     record { answers_step = call_line x.e x.line.now x.r _ _ _ _ _ _ _ _ pre.0 c.put_octets_at.ensures c.put_octets_at-2.ensures c.put_octets_at-3.ensures c.put_octets_at-4.ensures (frame_lent x.line.now x.r.octets pre.0.octets pre.1.0) done.answers_step; count_le_answer_line = done.count_le_answer_line }
+    record { answers_step = call_line x.e x.line.now x.r _ _ _ _ _ _ _ _ pre.0 c.put_octets_at.ensures c.put_octets_at-2.ensures c.put_octets_at-3.ensures c.put_octets_at-4.ensures (frame_lent x.line.now x.r.octets pre.0.octets pre.1.0) done.answers_step; count_le_answer_line = done.count_le_answer_line }

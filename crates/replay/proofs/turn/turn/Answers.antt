@@ -11,4 +11,4 @@ pub returns-then-not-r : goal.returns-then-not-r
 returns-then-not-r c = record { answers_line = says_none c.args.e c.args.line.now _ _ _ c.read_call-r.result _ c.read_call-r.ensures (not-true _ c.if-not-r.true) c.no_call-then-not-r.ensures.0 c.no_call-then-not-r.ensures.1; count_le_answer_line = rw c.no_call-then-not-r.ensures.0 (omega arith) }
 
 pub returns : goal.returns
-returns c =  record { answers_line = says_call c.args.e c.args.line.now _ _ _ c.read_call-r.result _ c.read_call-r.ensures (not-false _ c.if-not-r.false) c.call_line.ensures.answers_step; count_le_answer_line = c.call_line.ensures.count_le_answer_line }
+returns c = record { answers_line = says_call c.args.e c.args.line.now _ _ _ c.read_call-r.result _ c.read_call-r.ensures (not-false _ c.if-not-r.false) c.call_line.ensures.answers_step; count_le_answer_line = c.call_line.ensures.count_le_answer_line }
