@@ -1,7 +1,8 @@
 #!/usr/bin/env python3
-"""conv.py TOP CRATE..: turns proofs/F/Proof.antt that end in tie.close to Invariants.antt and Answers.antt, by /tmp/gen/CRATE/names.json."""
+"""Turns proofs/F/Proof.antt that end in tie.close to Invariants.antt and Answers.antt: turn_proofs.py TOP NAMES CRATE.., where NAMES/CRATE/names.json is what
+`rt check --generated NAMES/CRATE --old-names` wrote in the crate. Run once, after port.py and respell_names.py. Answers that only ask for the search go."""
 import json,os,re,sys,glob
-TOP=sys.argv[1]
+TOP,NAMES=sys.argv[1],sys.argv[2]
 WORD=re.compile(r"[^\s(){}\[\].;,:\"]+")
 norm=lambda s:s.replace('_','-').lower()
 TRIV={'search rules','omega arith','search (rules, arith)','tt'}
@@ -250,8 +251,8 @@ def prune(uses,text):
             elif b in ('rules','arith') and b in words: keep.append(n)
         if keep: out.append(f"use {m.group(1)}.{{{', '.join(keep)}}}")
     return '\n'.join(out)
-for crate in sys.argv[2:]:
-    d=json.load(open(f'/tmp/gen/{crate}/names.json'))
+for crate in sys.argv[3:]:
+    d=json.load(open(f'{NAMES}/{crate}/names.json'))
     n={}
     for p in sorted(glob.glob(f'{TOP}/crates/{crate}/proofs/**/Proof.antt',recursive=True)):
         r=convert(crate,p,d); n[r]=n.get(r,0)+1
