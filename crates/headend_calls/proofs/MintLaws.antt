@@ -1,7 +1,6 @@
 -- Only listings and the clock make a key, and what they make is what the minting rule gives (document 01, "Traffic keys at the
 -- head-end": "No other call mints a TEK").
 use mathlib.Core.Path.{◌≡◌, refl, sym, ◌∙◌, ap, subst}
-use mathlib.Core.Bool.{Bool}
 use mathlib.Core.List.{List, [], ◌∷◌, ◌++◌, map, map-append}
 use Prim.Native.Nat.{ℕ, zero, suc, ◌+◌, ◌*◌}
 use native.Mathlib.Omega.{arith}

@@ -1,6 +1,5 @@
 -- A refused call changes nothing and writes nothing (document 01, "The questions, in order").
 use mathlib.Core.Path.{◌≡◌, refl}
-use mathlib.Core.Bool.{Bool}
 use mathlib.Core.List.{List, []}
 use Prim.Native.Nat.{ℕ}
 use native.Mathlib.Omega.{arith}

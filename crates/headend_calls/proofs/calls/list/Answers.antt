@@ -4,7 +4,7 @@ use Rattle.questions.specs.Refusal.{answer_number_of}
 use Rattle.key_association.specs.declared.search.Probe.{Probe}
 use Rattle.key_records.specs.Records.{first_of, StoreFit}
 use Rattle.headend_state.specs.declared.state.Called.{Called}
-use Rattle.headend_limits.specs.Search.{out_of_limits_of, one_of}
+use Rattle.headend_limits.specs.Search.{out_of_limits_of}
 use Rattle.headend_steps.specs.Listing.{list_called_of}
 use Rattle.headend_calls.proofs.CallsLaws.{list_fit}
 use Rattle.headend_calls.proofs.calls.list.Goals as goal
