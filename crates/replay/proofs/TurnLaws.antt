@@ -14,7 +14,7 @@ use Rattle.replay_read.specs.declared.calls.Call.{Call}
 use Rattle.demand_plant.specs.World.{Step}
 use Rattle.replay_read.specs.declared.kept.ReadCall.{ReadCall}
 use Rattle.replay_fields.specs.declared.octets.Place.{Place}
-use Rattle.replay_answer.specs.Answer.{answer_text, answer_line, Room}
+use Rattle.replay_answer.specs.Answer.{answer_text, answer_line}
 use Rattle.text.proofs.HexLaws.{octets_length}
 use Rattle.replay_fields.specs.Fields.{is_line}
 use Rattle.replay_read.specs.Call.{LineCall, call_of}

@@ -7,7 +7,7 @@ use Rattle.replay.specs.Replay.{after_line}
 use Rattle.replay.proofs.answer.Goals as goal
 
 pub slice_bounds-write_all-end : goal.slice_bounds-write_all-end
-slice_bounds-write_all-end c = sym (length-take-le _ _ (omega (arith, c.take_line-t.ensures.short, c.take_line-t.auto.space)))
+slice_bounds-write_all-end c = sym (length-take-le _ _ (omega (arith, c.take_line-t.ensures.short, c.take_line-t.auto.out)))
 
 pub returns : goal.returns
 unfolding after_line

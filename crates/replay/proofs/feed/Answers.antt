@@ -1,6 +1,5 @@
 -- `replay::feed` meets its contract.
 use mathlib.Core.Path.{refl, ◌∙◌}
-use Prim.Native.Nat.{◌-◌}
 use native.Mathlib.Omega.{arith}
 use Rattle.replay.specs.Fed.{pending_in}
 use Rattle.replay.proofs.FedLaws.{fed_next, fed_over}

@@ -7,7 +7,7 @@ pub put_given-n-requires : goal.put_given-n-requires
 put_given-n-requires c = let a = c.args in
     let r = c.apply-a in
     let pre = c.requires in
-    given_fits a.e a.c a.octets.now a.auth.now a.read.now a.write.now a.frame.now r.result _ _ _ _ r.ensures.0 r.ensures.1 r.ensures.2 r.ensures.3 r.ensures.4 _ c.apply-a.auto.tek c.apply-a.auto.vector c.apply-a.auto.sent (omega (arith, c.apply-a.auto.frame, pre.0)) pre.1
+    given_fits a.e a.c a.octets.now a.auth.now a.read.now a.write.now a.frame.now r.result _ _ _ _ r.ensures.0 r.ensures.1 r.ensures.2 r.ensures.3 r.ensures.4 _ c.apply-a.auto.tek c.apply-a.auto.vector c.apply-a.auto.out (omega (arith, c.apply-a.auto.frame, pre.0)) pre.1
 
 pub returns : goal.returns
 returns c = let a = c.args in

@@ -6,16 +6,16 @@ use Rattle.replay.proofs.TurnLaws.{frame_lent, call_line}
 use Rattle.replay.proofs.turn.call_line.Goals as goal
 
 pub slice_bounds-applied_line-end : goal.slice_bounds-applied_line-end
-slice_bounds-applied_line-end c = sym (length-take-le _ _ (omega (arith, c.requires.0.octets, c.requires.1.0, c.put_octets_at.auto.octets)))
+slice_bounds-applied_line-end c = sym (length-take-le _ _ (omega (arith, c.requires.0.octets, c.requires.1.0, c.put_octets_at.auto.out)))
 
 pub slice_bounds-applied_line-end-2 : goal.slice_bounds-applied_line-end-2
-slice_bounds-applied_line-end-2 c = sym (length-take-le _ _ (omega (arith, c.requires.0.auth, c.requires.1.0, c.put_octets_at-2.auto.auth)))
+slice_bounds-applied_line-end-2 c = sym (length-take-le _ _ (omega (arith, c.requires.0.auth, c.requires.1.0, c.put_octets_at-2.auto.out)))
 
 pub slice_bounds-applied_line-end-3 : goal.slice_bounds-applied_line-end-3
-slice_bounds-applied_line-end-3 c = sym (length-take-le _ _ (omega (arith, c.requires.0.read, c.requires.1.0, c.put_octets_at-3.auto.read)))
+slice_bounds-applied_line-end-3 c = sym (length-take-le _ _ (omega (arith, c.requires.0.read, c.requires.1.0, c.put_octets_at-3.auto.out)))
 
 pub slice_bounds-applied_line-end-4 : goal.slice_bounds-applied_line-end-4
-slice_bounds-applied_line-end-4 c = sym (length-take-le _ _ (omega (arith, c.requires.0.write, c.requires.1.0, c.put_octets_at-4.auto.write)))
+slice_bounds-applied_line-end-4 c = sym (length-take-le _ _ (omega (arith, c.requires.0.write, c.requires.1.0, c.put_octets_at-4.auto.out)))
 
 pub slice_bounds-applied_line-end-5 : goal.slice_bounds-applied_line-end-5
 slice_bounds-applied_line-end-5 c = let x = c.args in
