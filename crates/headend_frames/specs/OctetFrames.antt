@@ -72,7 +72,7 @@ pub record FrameOpenable (a : Answer) (h : HeadEnd) (s : Found) (said : ℕ) (nu
 
 -- The answer with the state, and every octet of the two lent slices: what is given at the front of each, the rest as it was
 abbrev pub OpenFrameGives : HeadOpenedFrame → List ℕ → List ℕ → OpenedCall → List ℕ → List ℕ → Type 0
-OpenFrameGives g opened invalid r Opened-after invalid-after =
+OpenFrameGives g opened invalid r opened-after invalid-after =
     (r ≡ open_frame_called_of g)
-    × (Opened-after ≡ overlay opened g.octets)
+    × (opened-after ≡ overlay opened g.octets)
     × (invalid-after ≡ overlay invalid g.opened.invalid)

@@ -77,7 +77,7 @@ open_frame_called_of o = opened_call_of o.opened.answer o.opened.modem (length o
 
 -- The answer with the state, and every octet of the two lent slices: what is given at the front of each, the rest as it was
 abbrev pub OpenFrameGives : ModemOpenedFrame → List ℕ → List ℕ → OpenedCall → List ℕ → List ℕ → Type 0
-OpenFrameGives g opened out r Opened-after out-after =
+OpenFrameGives g opened out r opened-after out-after =
     (r ≡ open_frame_called_of g)
-    × (Opened-after ≡ overlay opened g.octets)
+    × (opened-after ≡ overlay opened g.octets)
     × (out-after ≡ overlay out g.opened.sent)
