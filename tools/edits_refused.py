@@ -13,7 +13,7 @@ from edit_logs import edits
 # Two sides that were computed and differ, or are printed
 SIDES = r"the two types (?:first |)differ|the two types are `|expected type `"
 # Values at which all that is known holds and the goal does not
-GOAL = r"the facts known there allow values at|the goal does not follow|the goal fails, at `"
+GOAL = r"the facts known there allow values|the goal does not follow|the goal fails, at `"
 # A name, a field or a place that is not there, and a tactic that stopped on its own, whatever else the error says
 OTHER = r"not in scope|is no library|no module|is not declared|has no field|has no `|(?:met|stopped at) a bound of its own|not admitted"
 
