@@ -1,6 +1,6 @@
--- `digests::show::line` meets its contract.
+-- `digests::line` meets its contract.
 use Prim.Native.Nat.{◌-◌, ◌≤◌}
-use Rattle.digests.proofs.show.line.Given as goal
+use Rattle.digests.proofs.line.Given as goal
 
 abbrev pub invariant-loop-i : goal.invariant-loop-i
 invariant-loop-i l = (l.i ≤ 20)
