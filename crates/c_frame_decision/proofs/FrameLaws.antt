@@ -9,8 +9,7 @@ use lib.ListN.{length}
 use borrow.Author.Tests.{leb-true, eqb-true, eq-eqb}
 use Rattle.key_traffic.specs.declared.numbers.TekNumber.{TekNumber}
 use Rattle.key_traffic.specs.declared.traffic.TrafficKey.{TrafficKey}
-use Rattle.key_traffic.specs.declared.frame.Opening.{Opening}
-use Rattle.key_traffic.specs.declared.frame.Opening.TheVariants.{ByOlder, ByNewer, ByNeither}
+use Rattle.key_traffic.specs.Opening.{Opening, ByOlder, ByNewer, ByNeither}
 use Rattle.key_traffic.specs.Octets.{overlay}
 use Rattle.key_traffic.specs.Numbers.{tek_in_range_of}
 use Rattle.key_traffic.specs.Suites.{width_known_of}

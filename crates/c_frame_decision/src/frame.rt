@@ -43,7 +43,7 @@ fn slices_fit(keys: usize, tek: usize, vector: usize) -> bool
 
 // The key of `keys` that opens a frame numbered `number` at `clock`: its first `width` octets of TEK and of vector go to the front
 // of `tek` and `vector`, and the answer is 0. `keys` has 64 octets: TEK and vector of the older, then of the newer, 16 for each.
-// Refused with 1, 2 or 13, and then nothing is written.
+// Refused with 1, 2 or 13, and then nothing is written. It answers by number, since C calls it (`curlewreel_frame_decision`).
 pub fn frame_decision(
     clock: u64,
     older_number: u8,

@@ -1,11 +1,12 @@
 -- Laws of the fields in octets (`specs/Layout.antt`): what is put there is read back as it was.
-use Prim.Native.Nat.{ℕ, ◌<◌}
+use Prim.Native.Nat.{ℕ, ◌+◌, ◌<◌}
 use mathlib.Core.Path.{◌≡◌, refl, sym, ap, ◌∙◌}
-use mathlib.Core.List.{List, [], ◌∷◌, ◌++◌, append_assoc}
+use mathlib.Core.List.{List, [], ◌∷◌, ◌++◌, append-nil, append_assoc}
 use native.Mathlib.Omega.{arith}
 use native.Mathlib.Nat.{mod-eq_of_lt}
+use native.Mathlib.Numerals.{add-one}
 use lib.ListN.{length, get_or, take, drop, replicate, length-append}
-use lib.Seq.{take_at, drop_at, take_all}
+use lib.Seq.{take_at, drop_at, take_all, take-suc}
 use Rattle.key_traffic.specs.Octets.{padded, octets_value}
 use Rattle.message_rules.specs.declared.fields.KeyOctets.{KeyOctets}
 use Rattle.message_rules.specs.declared.fields.Params.{Params}
@@ -40,19 +41,15 @@ pub record Held (f : Fields) : Type 0 where
   pub older : ParamsHeld f.older
   pub newer : ParamsHeld f.newer
 
--- ---- four descriptors, one after the other
-pub laid_four : (ds : List Descriptor) → length ds ≡ 4
-    → descriptor_laid (get_or ds 0 no_descriptor_of) ++ (descriptor_laid (get_or ds 1 no_descriptor_of)
-    ++ (descriptor_laid (get_or ds 2 no_descriptor_of) ++ descriptor_laid (get_or ds 3 no_descriptor_of)))
-    ≡ descriptors_laid ds
-unfolding descriptors_laid descriptor_laid two
-laid_four ds h =
-    of_four
-    (λ (l : List Descriptor).
-    descriptor_laid (get_or l 0 no_descriptor_of) ++ (descriptor_laid (get_or l 1 no_descriptor_of)
-    ++ (descriptor_laid (get_or l 2 no_descriptor_of) ++ descriptor_laid (get_or l 3 no_descriptor_of)))
-    ≡ descriptors_laid l)
-    (λ a b c d. refl) ds h
+-- ---- descriptors, one after the other
+laid_snoc : (ds : List Descriptor) (d : Descriptor) → descriptors_laid (ds ++ (d ∷ [])) ≡ descriptors_laid ds ++ descriptor_laid d
+unfolding descriptors_laid
+laid_snoc [] d = append-nil _
+laid_snoc (e ∷ ds) d = ap (λ (l : List ℕ). descriptor_laid e ++ l) (laid_snoc ds d) ∙ sym (append_assoc (descriptor_laid e) (descriptors_laid ds) (descriptor_laid d))
+
+pub laid_more : (i : ℕ) (ds : List Descriptor) → i < length ds → descriptors_laid (take i ds) ++ descriptor_laid (get_or ds i no_descriptor_of) ≡ descriptors_laid (take (i + 1) ds)
+laid_more i ds h =
+    sym (laid_snoc (take i ds) (get_or ds i no_descriptor_of)) ∙ ap descriptors_laid (sym (rw add-one (take-suc ds i no_descriptor_of h)))
 
 -- ---- lengths
 length_key : (k : KeyOctets) → length k.octets ≡ 16 → length (key_laid k) ≡ 17

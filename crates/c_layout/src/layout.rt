@@ -7,7 +7,7 @@ ghost use Rattle.c_layout.specs.Layout.{key_laid, params_laid, descriptor_laid, 
 use key_traffic::numbers::{AkNumber, TekNumber};
 use key_traffic::octets::{KEY_OCTETS, octets};
 use message_attributes::octets::{be16_of, be32_of, octet, part};
-use message_parts::put::put_octets;
+use message_parts::put::{four_octets, put_octets, two_octets};
 use message_rules::fields::{Descriptor, Fields, KeyOctets, Params, Place, Reading};
 use questions::limits::SAIDS_MAX;
 
@@ -90,21 +90,20 @@ const LIFE_OCTETS: usize = 4;
 fn key_from(v: &[u8]) -> KeyOctets
     ensures { result ≡ key_from_of v.now }
 {
-    let width = octet(v, KEY_WIDTH) as usize;
-    let o = octets(v, KEY_VALUE, KEY_OCTETS);
-    KeyOctets { width, octets: o }
+    KeyOctets {
+        width: usize::from(octet(v, KEY_WIDTH)),
+        octets: octets(v, KEY_VALUE, KEY_OCTETS),
+    }
 }
 
 fn params_from(v: &[u8]) -> Params
     ensures { result ≡ params_from_of v.now }
 {
-    let tek = key_from(part(v, PARAMS_TEK_WIDTH, KEY));
-    let vector = key_from(part(v, PARAMS_VECTOR_WIDTH, KEY));
     Params {
         number: TekNumber(octet(v, PARAMS_NUMBER)),
         life: be32_of(part(v, PARAMS_LIFE, LIFE_OCTETS)),
-        tek,
-        vector,
+        tek: key_from(part(v, PARAMS_TEK_WIDTH, KEY)),
+        vector: key_from(part(v, PARAMS_VECTOR_WIDTH, KEY)),
     }
 }
 
@@ -121,20 +120,19 @@ fn descriptor_from(v: &[u8]) -> Descriptor
 fn descriptors_from(v: &[u8]) -> [Descriptor; SAIDS_MAX]
     ensures { result ≡ descriptors_from_of v.now }
 {
-    let a = descriptor_from(part(v, FIRST_DESCRIPTOR, DESCRIPTOR));
-    let b = descriptor_from(part(v, SECOND_DESCRIPTOR, DESCRIPTOR));
-    let c = descriptor_from(part(v, THIRD_DESCRIPTOR, DESCRIPTOR));
-    let d = descriptor_from(part(v, FOURTH_DESCRIPTOR, DESCRIPTOR));
-    [a, b, c, d]
+    // four by name: `map` over the places asks more proof than this has lines
+    [
+        descriptor_from(part(v, FIRST_DESCRIPTOR, DESCRIPTOR)),
+        descriptor_from(part(v, SECOND_DESCRIPTOR, DESCRIPTOR)),
+        descriptor_from(part(v, THIRD_DESCRIPTOR, DESCRIPTOR)),
+        descriptor_from(part(v, FOURTH_DESCRIPTOR, DESCRIPTOR)),
+    ]
 }
 
 // The fields in the first 109 octets. What `s` lacks is zero.
 pub fn fields_from(s: &[u8]) -> Fields
     ensures { result ≡ fields_from_of s.now }
 {
-    let descriptors = descriptors_from(part(s, FIELD_DESCRIPTORS, DESCRIPTORS));
-    let older = params_from(part(s, FIELD_OLDER, PARAMS));
-    let newer = params_from(part(s, FIELD_NEWER, PARAMS));
     Fields {
         code: octet(s, FIELD_CODE),
         identifier: octet(s, FIELD_IDENTIFIER),
@@ -142,10 +140,10 @@ pub fn fields_from(s: &[u8]) -> Fields
         said: be16_of(part(s, FIELD_SAID, SAID_OCTETS)),
         life: be32_of(part(s, FIELD_LIFE, LIFE_OCTETS)),
         error: octet(s, FIELD_ERROR),
-        count: octet(s, FIELD_COUNT) as usize,
-        descriptors,
-        older,
-        newer,
+        count: usize::from(octet(s, FIELD_COUNT)),
+        descriptors: descriptors_from(part(s, FIELD_DESCRIPTORS, DESCRIPTORS)),
+        older: params_from(part(s, FIELD_OLDER, PARAMS)),
+        newer: params_from(part(s, FIELD_NEWER, PARAMS)),
     }
 }
 
@@ -154,10 +152,8 @@ fn put_key(out: &mut [u8], at: usize, k: KeyOctets) -> usize
     ensures put { Put out.old at (key_laid k) result out.new }
     ensures value { result ≡ at + 17 }
 {
-    let head = [(k.width % 256) as u8];
-    let a = put_octets(out, at, &head);
-    let o = k.octets;
-    put_octets(out, a, &o)
+    let a = put_octets(out, at, &[(k.width % 256) as u8]);
+    put_octets(out, a, &k.octets)
 }
 
 fn put_params(out: &mut [u8], at: usize, p: Params) -> usize
@@ -165,16 +161,10 @@ fn put_params(out: &mut [u8], at: usize, p: Params) -> usize
     ensures put { Put out.old at (params_laid p) result out.new }
     ensures value { result ≡ at + 39 }
 {
-    let head = [
-        p.number.0,
-        (p.life / 16777216 % 256) as u8,
-        (p.life / 65536 % 256) as u8,
-        (p.life / 256 % 256) as u8,
-        (p.life % 256) as u8,
-    ];
-    let a = put_octets(out, at, &head);
-    let b = put_key(out, a, p.tek);
-    put_key(out, b, p.vector)
+    let a = put_octets(out, at, &[p.number.0]);
+    let b = put_octets(out, a, &four_octets(p.life));
+    let c = put_key(out, b, p.tek);
+    put_key(out, c, p.vector)
 }
 
 fn put_descriptor(out: &mut [u8], at: usize, d: Descriptor) -> usize
@@ -182,10 +172,8 @@ fn put_descriptor(out: &mut [u8], at: usize, d: Descriptor) -> usize
     ensures put { Put out.old at (descriptor_laid d) result out.new }
     ensures value { result ≡ at + 5 }
 {
-    let said_high = (d.said / 256 % 256) as u8;
-    let said_low = (d.said % 256) as u8;
-    let suite_high = (d.suite / 256 % 256) as u8;
-    let suite_low = (d.suite % 256) as u8;
+    let [said_high, said_low] = two_octets(usize::from(d.said));
+    let [suite_high, suite_low] = two_octets(usize::from(d.suite));
     let all = [said_high, said_low, d.kind, suite_high, suite_low];
     put_octets(out, at, &all)
 }
@@ -195,10 +183,11 @@ fn put_descriptors(out: &mut [u8], at: usize, ds: [Descriptor; SAIDS_MAX]) -> us
     ensures put { Put out.old at (descriptors_laid ds) result out.new }
     ensures value { result ≡ at + 20 }
 {
-    let a = put_descriptor(out, at, ds[0]);
-    let b = put_descriptor(out, a, ds[1]);
-    let c = put_descriptor(out, b, ds[2]);
-    put_descriptor(out, c, ds[3])
+    let mut end = at;
+    for d in &ds {
+        end = put_descriptor(out, end, *d);
+    }
+    end
 }
 
 // What stands before the descriptors.
@@ -206,29 +195,18 @@ fn put_head(out: &mut [u8], f: Fields) -> usize
     ensures put { Put out.old 0 (head_laid f) result out.new }
     ensures value { result ≡ 11 }
 {
-    let all = [
-        f.code,
-        f.identifier,
-        f.ak.0,
-        f.error,
-        (f.count % 256) as u8,
-        (f.said / 256 % 256) as u8,
-        (f.said % 256) as u8,
-        (f.life / 16777216 % 256) as u8,
-        (f.life / 65536 % 256) as u8,
-        (f.life / 256 % 256) as u8,
-        (f.life % 256) as u8,
-    ];
-    put_octets(out, 0, &all)
+    let numbers = [f.code, f.identifier, f.ak.0, f.error, (f.count % 256) as u8];
+    let a = put_octets(out, 0, &numbers);
+    let b = put_octets(out, a, &two_octets(usize::from(f.said)));
+    put_octets(out, b, &four_octets(f.life))
 }
 
 fn put_fields(out: &mut [u8], f: Fields) -> usize
     ensures put { Put out.old 0 (fields_octets f) result out.new }
     ensures value { result ≡ 109 }
 {
-    let descriptors = f.descriptors;
     let a = put_head(out, f);
-    let b = put_descriptors(out, a, descriptors);
+    let b = put_descriptors(out, a, f.descriptors);
     let c = put_params(out, b, f.older);
     put_params(out, c, f.newer)
 }
@@ -238,22 +216,15 @@ fn put_place(out: &mut [u8], at: usize, p: Place) -> usize
     ensures put { Put out.old at (place_laid p) result out.new }
     ensures value { result ≡ at + 4 }
 {
-    let all = [
-        (p.start / 256 % 256) as u8,
-        (p.start % 256) as u8,
-        (p.len / 256 % 256) as u8,
-        (p.len % 256) as u8,
-    ];
-    put_octets(out, at, &all)
+    let [start_high, start_low] = two_octets(p.start);
+    let [len_high, len_low] = two_octets(p.len);
+    put_octets(out, at, &[start_high, start_low, len_high, len_low])
 }
 
 fn holds_octet(holds: bool) -> u8
     ensures { result ≡ holds_octet_of holds }
 {
-    if holds {
-        return DIGEST_YES;
-    }
-    DIGEST_NO
+    if holds { DIGEST_YES } else { DIGEST_NO }
 }
 
 // The fields, the two places and whether the digest holds, in 118 octets.
@@ -264,6 +235,5 @@ pub fn put_reading(out: &mut [u8], r: Reading, holds: bool) -> usize
     let a = put_fields(out, r.fields);
     let b = put_place(out, a, r.key);
     let c = put_place(out, b, r.digest);
-    let last = [holds_octet(holds)];
-    put_octets(out, c, &last)
+    put_octets(out, c, &[holds_octet(holds)])
 }

@@ -1,16 +1,18 @@
 -- The key schedule: the next round key from its words, and a round key stored in the array of words.
-use mathlib.Core.Path.{◌≡◌, ap, ap₂, subst, ◌∙◌}
+use mathlib.Core.Path.{◌≡◌, refl, sym, ap, ap₂, subst, ◌∙◌}
 use mathlib.Core.Bool.{Bool, true, false}
 use mathlib.Core.List.{List, [], ◌∷◌, ◌++◌}
-use mathlib.Core.Logic.{◌⊎◌, inl, ⊎_elim}
-use Prim.Native.Nat.{ℕ, ◌+◌, ◌*◌, ◌<◌, ◌≤◌}
+use mathlib.Core.Logic.{◌≢◌}
+use Prim.Native.Nat.{ℕ, suc, ◌+◌, ◌<◌, ◌≤◌}
 use native.Mathlib.Omega.{arith}
+use native.Mathlib.Numerals.{add-one}
 use lib.Dec.{ltb}
-use lib.ListN.{length, get_or, set, length-set}
-use lib.Seq.{get_or-set_same, get_or-set_other}
+use lib.ListN.{length, length-append, get_or, set, take, drop}
+use lib.Seq.{get_or-set_same, get_or-set_other, get_or-take, get_or-drop, take-take, take_at}
+use Rattle.std.proofs.lemmas.List.{get_or_at}
 use Rattle.cipher_aes.specs.Field.{xors}
 use Rattle.cipher_aes.specs.Sbox.{sub}
-use Rattle.cipher_aes.specs.Keys.{substituted_rotated_of, chained}
+use Rattle.cipher_aes.specs.Keys.{rcon, substituted_rotated_of, chained, next_key_of, round_key}
 use Rattle.cipher_aes.specs.Words.{word, state, key_at}
 use Rattle.cipher_aes.specs.declared.words.State.{State}
 use Rattle.cipher_aes.proofs.StepLaws.{join}
@@ -33,72 +35,52 @@ pub substituted_rotated : (rc p q : ℕ) (k : State) → word p ≡ sub (o1 k.d)
 unfolding state word substituted_rotated_of
 substituted_rotated rc p q k hp hq = ap₂ xors hp hq
 
--- ---- four words stored
+-- ---- a round key stored
 
-abbrev set1 : List ℕ → ℕ → State → List ℕ
-set1 l n k = set l n k.a
+pub put_same : (w : List State) (i : ℕ) (k : State) → i < length w → key_at (set w i k) i ≡ state k
+unfolding key_at
+put_same w i k h = ap state (get_or-set_same w i k _ h)
 
-abbrev set2 : List ℕ → ℕ → State → List ℕ
-set2 l n k = set (set1 l n k) (n + 1) k.b
+pub put_other : (w : List State) (i : ℕ) (k : State) (j : ℕ) → j ≢ i → key_at (set w i k) j ≡ key_at w j
+unfolding key_at
+put_other w i k j h = ap state (get_or-set_other w i j k _ h)
 
-abbrev set3 : List ℕ → ℕ → State → List ℕ
-set3 l n k = set (set2 l n k) (n + 2) k.c
+-- a round key behind the first
+pub later_key : (w : List State) (i : ℕ) → i < 9 → state (get_or (take 9 (drop 1 w)) i (record { a = 0; b = 0; c = 0; d = 0 })) ≡ key_at w (suc i)
+unfolding key_at
+later_key w i h =
+    let e : 1 + i ≡ suc i = omega arith in
+    ap state (get_or-take 9 (drop 1 w) i _ h ∙ (rw (← e) (get_or-drop 1 w i _)))
 
-abbrev pub stored : List ℕ → ℕ → State → List ℕ
-stored l n k = set (set3 l n k) (n + 3) k.d
+-- the last of the round keys that are left: t of them begin behind the first of v, and k is the last of t
+pub last_key : (v t s : List State) (k : State) → t ≡ s ++ k ∷ [] → t ≡ take (length t) (drop 1 v)
+    → (length t ≡ suc (length s)) × (s ≡ take (length s) (drop 1 v)) × (state k ≡ key_at v (length t))
+unfolding key_at
+last_key v t s k p q =
+    let z : State = record { a = 0; b = 0; c = 0; d = 0 } in
+    let n = length s in
+    let long : length t ≡ suc n = omega (arith, ap length p, length-append s (k ∷ [])) in
+    let h : n < length t = omega arith in
+    let l : n ≤ length t = omega arith in
+    let front : take n t ≡ s = ap (take n) p ∙ take_at s (k ∷ []) n refl in
+    let end : get_or t n z ≡ k = ap (λ (x : List State). get_or x n z) p ∙ get_or_at s k [] z n refl in
+    let e : 1 + n ≡ length t = omega arith in
+    let there : get_or t n z ≡ get_or v (length t) z
+    = ap (λ (x : List State). get_or x n z) q ∙ get_or-take (length t) (drop 1 v) n z h ∙ get_or-drop 1 v n z ∙ ap (λ (i : ℕ). get_or v i z) e in
+    (long, sym front ∙ ap (take n) q ∙ take-take n (length t) (drop 1 v) l, ap state (sym end ∙ there))
 
-words4 : {a b c d a' b' c' d' : ℕ} → a ≡ a' → b ≡ b' → c ≡ c' → d ≡ d' → word a ++ word b ++ word c ++ word d ≡ word a' ++ word b' ++ word c' ++ word d'
-words4 p q r s = join (ap word p) (ap word q) (ap word r) (ap word s)
-
--- what stands elsewhere
-elsewhere : (l : List ℕ) (n : ℕ) (k : State) (j : ℕ) → (j < n) ⊎ (n + 3 < j) → get_or (stored l n k) j 0 ≡ get_or l j 0
-elsewhere l n k j h =
-    get_or-set_other (set3 l n k) (n + 3) j k.d 0 (off 3 (omega arith))
-    ∙ get_or-set_other (set2 l n k) (n + 2) j k.c 0 (off 2 (omega arith))
-    ∙ get_or-set_other (set1 l n k) (n + 1) j k.b 0 (off 1 (omega arith))
-    ∙ get_or-set_other l n j k.a 0 (⊎_elim (λ a e. omega arith) (λ a e. omega arith) h)
-  where
-    off : (m : ℕ) → m ≤ 3 → j ≡ n + m → ⊥
-    off m b e = ⊎_elim (λ a. omega arith) (λ a. omega arith) h
-
-module _ (l : List ℕ) (n : ℕ) (k : State) (h : n + 3 < length l) where
-  at0 : get_or (stored l n k) n 0 ≡ k.a
-  at0 =
-      get_or-set_other (set3 l n k) (n + 3) n k.d 0 (λ e. omega arith)
-      ∙ get_or-set_other (set2 l n k) (n + 2) n k.c 0 (λ e. omega arith)
-      ∙ get_or-set_other (set1 l n k) (n + 1) n k.b 0 (λ e. omega arith)
-      ∙ get_or-set_same l n k.a 0 (omega arith)
-
-  at1 : get_or (stored l n k) (n + 1) 0 ≡ k.b
-  at1 =
-      get_or-set_other (set3 l n k) (n + 3) (n + 1) k.d 0 (λ e. omega arith)
-      ∙ get_or-set_other (set2 l n k) (n + 2) (n + 1) k.c 0 (λ e. omega arith)
-      ∙ get_or-set_same (set1 l n k) (n + 1) k.b 0 (simp length-set (omega arith))
-
-  at2 : get_or (stored l n k) (n + 2) 0 ≡ k.c
-  at2 = get_or-set_other (set3 l n k) (n + 3) (n + 2) k.d 0 (λ e. omega arith) ∙ get_or-set_same (set2 l n k) (n + 2) k.c 0 (simp length-set (omega arith))
-
-  at3 : get_or (stored l n k) (n + 3) 0 ≡ k.d
-  at3 = get_or-set_same (set3 l n k) (n + 3) k.d 0 (simp length-set (omega arith))
-
-module _ (l : List ℕ) (i : ℕ) (k : State) (h : 4 * i + 3 < length l) where
-  pub put_same : key_at (stored l (4 * i) k) i ≡ state k
-  unfolding key_at state
-  put_same = words4 (at0 l (4 * i) k h) (at1 l (4 * i) k h) (at2 l (4 * i) k h) (at3 l (4 * i) k h)
-
-  pub put_other : (j : ℕ) → j < i → key_at (stored l (4 * i) k) j ≡ key_at l j
-  unfolding key_at
-  put_other j b =
-      words4 (elsewhere l (4 * i) k (4 * j) (inl (omega arith))) (elsewhere l (4 * i) k (4 * j + 1) (inl (omega arith)))
-      (elsewhere l (4 * i) k (4 * j + 2) (inl (omega arith))) (elsewhere l (4 * i) k (4 * j + 3) (inl (omega arith)))
+-- the next round key is that of the schedule
+pub made : (key : State) (i rc : ℕ) (k r : List ℕ) → rc ≡ rcon i → k ≡ round_key (state key) i → r ≡ next_key_of rc k → r ≡ round_key (state key) (i + 1)
+unfolding round_key
+made key i rc k r a b e = rw (add-one, ← a, ← b) e
 
 -- one round key more
-pub one_key_more : (w w' : List ℕ) (f : ℕ → List ℕ) (i : ℕ) → key_at w' i ≡ f i → ((j : ℕ) → j < i → key_at w' j ≡ key_at w j)
-    → ((j : ℕ) → j < i → key_at w j ≡ f j) → (j : ℕ) → j < i + 1 → key_at w' j ≡ f j
-one_key_more w w' f i e o b j h = go (ltb j i) (if_lt j i)
+pub one_key_more : (w : List State) (k : State) (f : ℕ → List ℕ) (i : ℕ) → i < length w → state k ≡ f i
+    → ((j : ℕ) → j < i → key_at w j ≡ f j) → (j : ℕ) → j < i + 1 → key_at (set w i k) j ≡ f j
+one_key_more w k f i l e b j h = go (ltb j i) (if_lt j i)
   where
-    go : (t : Bool) → IfLt j i t → key_at w' j ≡ f j
-    go true l = o j l ∙ b j l
-    go false l =
-        let n : i ≡ j = omega arith in
-        subst (λ (m : ℕ). key_at w' m ≡ f m) n e
+    go : (t : Bool) → IfLt j i t → key_at (set w i k) j ≡ f j
+    go true n = let o : j ≢ i = omega arith in put_other w i k j o ∙ b j n
+    go false n =
+        let m : i ≡ j = omega arith in
+        subst (λ (n : ℕ). key_at (set w i k) n ≡ f n) m (put_same w i k l ∙ e)

@@ -4,6 +4,8 @@ use mathlib.Core.List.{List, [], ◌∷◌}
 use Prim.Native.Nat.{ℕ, ◌+◌, ◌*◌, ◌/◌, ◌%◌, ◌<◌, ◌^◌}
 use native.Mathlib.Omega.{arith}
 use lib.Bits.{bit_xor}
+use Rattle.std.specs.Int.{w32, rotate_right}
+use Rattle.std.specs.Int.Bits.{or_shifted_r}
 use Rattle.cipher_aes.specs.Field.{◌⊕◌, xors, by2, by3}
 use Rattle.cipher_aes.specs.Sbox.{sub, sub_bytes}
 use Rattle.cipher_aes.specs.Cipher.{mix_column, shift_rows, columns, add_round_key_of, round, final_round_of}
@@ -41,17 +43,28 @@ by_octets x h =
     let r : x / 256 ≡ x / 65536 * 256 + x / 256 % 256 = omega arith in
     omega arith
 
-pub rotated_by_1 : (x : ℕ) → x < 2 ^ 32 → word (x % 256 * 16777216 + x / 256) ≡ rotated (word x)
-unfolding word
-rotated_by_1 x h = by_octets_1 x _ _ _ _ (omega arith) (omega arith) (omega arith) (omega arith) (by_octets x h)
+-- a word rotated to the right by one, two and three octets
+module _ (x : ℕ) (h : x < 2 ^ 32) where
+  pub right_1 : word (rotate_right w32 x 8) ≡ rotated (word x)
+  unfolding word
+  right_1 =
+      let e : x * 16777216 % 4294967296 ≡ x % 256 * 16777216 = omega arith in
+      rw (e, or_shifted_r (x % 256) 24 (x / 256) (omega arith))
+      (by_octets_1 x _ _ _ _ (omega arith) (omega arith) (omega arith) (omega arith) (by_octets x h))
 
-pub rotated-2 : (x : ℕ) → x < 2 ^ 32 → word (x % 65536 * 65536 + x / 65536) ≡ rotated (rotated (word x))
-unfolding word
-rotated-2 x h = by_octets_2 x _ _ _ _ (omega arith) (omega arith) (omega arith) (omega arith) (by_octets x h)
+  pub right_2 : word (rotate_right w32 x 16) ≡ rotated (rotated (word x))
+  unfolding word
+  right_2 =
+      let e : x * 65536 % 4294967296 ≡ x % 65536 * 65536 = omega arith in
+      rw (e, or_shifted_r (x % 65536) 16 (x / 65536) (omega arith))
+      (by_octets_2 x _ _ _ _ (omega arith) (omega arith) (omega arith) (omega arith) (by_octets x h))
 
-pub rotated-3 : (x : ℕ) → x < 2 ^ 32 → word (x % 16777216 * 256 + x / 16777216) ≡ rotated (rotated (rotated (word x)))
-unfolding word
-rotated-3 x h = by_octets_3 x _ _ _ _ (omega arith) (omega arith) (omega arith) (omega arith) (by_octets x h)
+  pub right_3 : word (rotate_right w32 x 24) ≡ rotated (rotated (rotated (word x)))
+  unfolding word
+  right_3 =
+      let e : x * 256 % 4294967296 ≡ x % 16777216 * 256 = omega arith in
+      rw (e, or_shifted_r (x % 16777216) 8 (x / 16777216) (omega arith))
+      (by_octets_3 x _ _ _ _ (omega arith) (omega arith) (omega arith) (omega arith) (by_octets x h))
 
 octet_xor : (k x y : ℕ) → (x ⊕ y) / 2 ^ k % 256 ≡ x / 2 ^ k % 256 ⊕ y / 2 ^ k % 256
 octet_xor k x y = ap (λ (a : ℕ). a % 256) (shr k x y) ∙ low_digits 8 (x / 2 ^ k) (y / 2 ^ k)

@@ -16,10 +16,9 @@ rotated s = get_or s 3 0 ∷ get_or s 0 0 ∷ get_or s 1 0 ∷ get_or s 2 0 ∷ 
 unfoldable pub state : State → List ℕ
 state s = word s.a ++ word s.b ++ word s.c ++ word s.d
 
--- 5.2: round key i in the words w of a schedule
-unfoldable pub key_at : List ℕ → ℕ → List ℕ
-key_at w i =
-    word (get_or w (4 * i) 0) ++ word (get_or w (4 * i + 1) 0) ++ word (get_or w (4 * i + 2) 0) ++ word (get_or w (4 * i + 3) 0)
+-- 5.2: round key i of a schedule
+unfoldable pub key_at : List State → ℕ → List ℕ
+key_at w i = state (get_or w i (record { a = 0; b = 0; c = 0; d = 0 }))
 
 -- 3.5: the word of four octets
 abbrev pub word_of : ℕ → ℕ → ℕ → ℕ → ℕ

@@ -40,8 +40,8 @@ const DECRYPTION_TABLE: [u32; TABLE_ENTRIES] = [
 ];
 
 // The table.
-pub fn decryption_table() -> [u32; TABLE_ENTRIES]
-    ensures { DecTable result }
+pub fn decryption_table() -> &'static [u32; TABLE_ENTRIES]
+    ensures { DecTable result.now }
 {
-    DECRYPTION_TABLE
+    &DECRYPTION_TABLE
 }

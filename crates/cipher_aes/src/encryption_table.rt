@@ -40,8 +40,8 @@ const ENCRYPTION_TABLE: [u32; TABLE_ENTRIES] = [
 ];
 
 // The table.
-pub fn encryption_table() -> [u32; TABLE_ENTRIES]
-    ensures { EncTable result }
+pub fn encryption_table() -> &'static [u32; TABLE_ENTRIES]
+    ensures { EncTable result.now }
 {
-    ENCRYPTION_TABLE
+    &ENCRYPTION_TABLE
 }

@@ -24,8 +24,8 @@ const INVERSE_SBOX: [u8; TABLE_ENTRIES] = [
 ];
 
 // The inverse S-box.
-pub fn inverse_sbox() -> [u8; TABLE_ENTRIES]
-    ensures { InvTable result }
+pub fn inverse_sbox() -> &'static [u8; TABLE_ENTRIES]
+    ensures { InvTable result.now }
 {
-    INVERSE_SBOX
+    &INVERSE_SBOX
 }

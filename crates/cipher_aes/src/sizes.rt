@@ -3,17 +3,14 @@
 // A block has 128 bits, and so has the key.
 pub const BLOCK_OCTETS: usize = 16;
 
+// A word has 32 bits.
+pub const WORD_OCTETS: usize = 4;
+
 // Rounds (section 5, table 3).
 pub const ROUNDS: usize = 10;
 
-// Rounds with MixColumns: all but the last (5.1).
-pub const MIXED_ROUNDS: usize = 9;
-
 // Round keys: one before the rounds and one for each of them (5.2).
 pub const ROUND_KEYS: usize = 11;
-
-// Words of the key schedule, four for a round key (5.2).
-pub const SCHEDULE_WORDS: usize = 44;
 
 // Entries of a table: one for each octet.
 pub const TABLE_ENTRIES: usize = 256;

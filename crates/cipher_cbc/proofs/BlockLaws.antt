@@ -5,17 +5,18 @@ use Prim.Native.Nat.{ℕ, suc, ◌+◌, ◌-◌, ◌/◌, ◌<◌, ◌≤◌}
 use native.Mathlib.Omega.{arith}
 use lib.ListN.{length, take, drop, length-append, length-take, length-drop, take-append-drop, drop_of_length-le}
 use lib.Seq.{drop-drop, take_at, drop_at, length-take-le, sets, sets-eq, length-sets}
+use Rattle.cipher_aes.specs.declared.words.State.{State}
 use Rattle.cipher_aes.specs.Field.{xors}
 use Rattle.cipher_aes.specs.Cipher.{cipher, eq_inv_cipher}
 use Rattle.cipher_aes.specs.Words.{key_at}
 use Rattle.cipher_cbc.specs.Cbc.{chained_blocks, frame}
 
 -- what a block b behind u is sealed to, with the words w of a schedule
-abbrev pub sealed_block : List ℕ → List ℕ → List ℕ → List ℕ
+abbrev pub sealed_block : List State → List ℕ → List ℕ → List ℕ
 sealed_block w u b = cipher (key_at w) (xors b u)
 
 -- what a block b behind u is opened to, with the words w of a schedule and x of the same through InvMixColumns
-abbrev pub opened_block : List ℕ → List ℕ → List ℕ → List ℕ → List ℕ
+abbrev pub opened_block : List State → List State → List ℕ → List ℕ → List ℕ
 opened_block w x u b = xors (eq_inv_cipher (key_at w) (key_at x) b) u
 
 -- what the calls of one pass of the loop make of a loaded block l

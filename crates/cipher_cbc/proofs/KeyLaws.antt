@@ -27,11 +27,11 @@ module _ (o n o' n' : List ℕ → List ℕ → List ℕ) (e e' : List ℕ → L
   unfolding frame
   frame_agrees v f = ap (λ (x : List ℕ). take 12 f ++ x) (chained_agrees (length (drop 12 f) / 16) v (drop 12 f))
 
-words_length : (w : List ℕ) (i : ℕ) → length (key_at w i) ≡ 16
-unfolding key_at word
+words_length : (w : List State) (i : ℕ) → length (key_at w i) ≡ 16
+unfolding key_at state word
 words_length w i = refl
 
-module _ (key w : List ℕ) (h : (i : ℕ) → i < 11 → key_at w i ≡ round_key key i) where
+module _ (key : List ℕ) (w : List State) (h : (i : ℕ) → i < 11 → key_at w i ≡ round_key key i) where
   cipher_of_key : (s : List ℕ) → cipher (key_at w) s ≡ cipher (round_key key) s
   cipher_of_key = cipher_agrees (key_at w) (round_key key) h
 
@@ -39,7 +39,7 @@ module _ (key w : List ℕ) (h : (i : ℕ) → i < 11 → key_at w i ≡ round_k
   unfolding seal_aes seal_frame_of
   seal_agrees v f = frame_agrees _ _ _ _ _ _ (λ u b. cipher_of_key (xors b u)) (λ u b. cipher_of_key (xors b u)) cipher_of_key v f
 
-  pub open_agrees : (x v f : List ℕ) → ((i : ℕ) → i < 11 → key_at x i ≡ inv_mix_columns (key_at w i))
+  pub open_agrees : (x : List State) (v f : List ℕ) → ((i : ℕ) → i < 11 → key_at x i ≡ inv_mix_columns (key_at w i))
       → open_frame_of (cipher (key_at w)) (eq_inv_cipher (key_at w) (key_at x)) v f ≡ open_aes key v f
   unfolding open_aes open_frame_of
   open_agrees x v f e =
@@ -52,7 +52,7 @@ all_of : (s : List ℕ) → length s ≡ 16 → take 16 (drop 0 s) ≡ s
 all_of s h = take_all 16 s (omega arith)
 
 -- with key and vector loaded off lists of 16
-module _ (key vector w : List ℕ) (k v : State) (hk : length key ≡ 16) (hv : length vector ≡ 16) (ek : state k ≡ take 16 (drop 0 key))
+module _ (key vector : List ℕ) (w : List State) (k v : State) (hk : length key ≡ 16) (hv : length vector ≡ 16) (ek : state k ≡ take 16 (drop 0 key))
     (ev : state v ≡ take 16 (drop 0 vector)) (h : (i : ℕ) → i < 11 → key_at w i ≡ round_key (state k) i) where
   key_of : (i : ℕ) → i < 11 → key_at w i ≡ round_key key i
   key_of i l = h i l ∙ ap (λ (x : List ℕ). round_key x i) (ek ∙ all_of key hk)
@@ -61,7 +61,7 @@ module _ (key vector w : List ℕ) (k v : State) (hk : length key ≡ 16) (hv : 
   seal_loaded f o r p =
       p ∙ ap (λ (l : List ℕ). l ++ r) (seal_agrees key w key_of (state v) f ∙ ap (λ (x : List ℕ). seal_aes key x f) (ev ∙ all_of vector hv))
 
-  pub open_loaded : (x f o r : List ℕ) → ((i : ℕ) → i < 11 → key_at x i ≡ inv_mix_columns (key_at w i))
+  pub open_loaded : (x : List State) (f o r : List ℕ) → ((i : ℕ) → i < 11 → key_at x i ≡ inv_mix_columns (key_at w i))
       → o ≡ open_frame_of (cipher (key_at w)) (eq_inv_cipher (key_at w) (key_at x)) (state v) f ++ r → o ≡ open_aes key vector f ++ r
   open_loaded x f o r e p =
       p ∙ ap (λ (l : List ℕ). l ++ r) (open_agrees key w key_of x (state v) f e ∙ ap (λ (y : List ℕ). open_aes key y f) (ev ∙ all_of vector hv))

@@ -2,7 +2,6 @@
 use mathlib.Core.Path.{◌≡◌, refl, sym, ap, ap₂, ◌∙◌}
 use mathlib.Core.List.{List, [], ◌∷◌, ◌++◌, append-nil}
 use Prim.Native.Nat.{ℕ, zero, suc, ◌+◌, ◌-◌, ◌<◌, ◌≤◌}
-use native.Mathlib.Nat.{zero-add}
 use native.Mathlib.Numerals.{add-one}
 use native.Mathlib.Omega.{arith}
 use lib.ListN.{length, get_or, take, drop, set, length-drop}
@@ -49,14 +48,6 @@ pub loaded : (r : State) (s : List ℕ) (i : ℕ) → word r.a ≡ take 4 (drop 
 unfolding state
 loaded r s i p q u v = join p q u v ∙ sixteen_at s i
 
--- four stores
-pub four_set : (l : List ℕ) (i a b c d : ℕ) → set (set (set (set l i a) (i + 1) b) (i + 2) c) (i + 3) d ≡ sets l i (a ∷ b ∷ c ∷ d ∷ [])
-four_set l i a b c d =
-    let p : i + 1 ≡ suc i = omega arith in
-    let q : i + 2 ≡ suc (suc i) = omega arith in
-    let r : i + 3 ≡ suc (suc (suc i)) = omega arith in
-    simp (p, q, r)
-
 pub sets_append : (l : List ℕ) (i : ℕ) (a b : List ℕ) → sets (sets l i a) (i + length a) b ≡ sets l i (a ++ b)
 sets_append l i [] b = ap (λ (k : ℕ). sets l k b) (omega arith)
 sets_append l i (x ∷ a) b =
@@ -76,13 +67,6 @@ stored l l1 l2 l3 l4 i s p q u v =
     (u ∙ ap (λ (t : List ℕ). sets t (i + 8) c) (q ∙ ap (λ (t : List ℕ). sets t (i + 4) b) p ∙ sets_append l i a b)
     ∙ sets_append l i (a ++ b) c)
     ∙ sets_append l i (a ++ b ++ c) d
-
--- one pass of the loop that copies from the front
-pub copied : (d s : List ℕ) (j : ℕ) → j < length d → j < length s
-    → set (take j s ++ drop j d) j (get_or s j 0) ≡ take (j + 1) s ++ drop (j + 1) d
-copied d s j h k =
-    let h' : 0 + j < length d = omega arith in
-    rw add-one (simp zero-add at (paste-suc d 0 s j 0 h' k))
 
 -- one pass of the loop that adds b to what follows place i
 pub added : (d s b : List ℕ) (i j : ℕ) → i + j < length s → length s ≤ length d → length s - i ≤ length b

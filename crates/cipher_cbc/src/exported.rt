@@ -19,23 +19,21 @@ pub const OUTPUT_TOO_SHORT: u8 = 2;
 // The frame has fewer octets than its addresses.
 pub const FRAME_TOO_SHORT: u8 = 15;
 
-// The answer to four lengths.
+// The answer to four lengths: C's number, which both calls hand out as it is.
 fn refused(key: usize, vector: usize, frame: usize, out: usize) -> u8
     ensures { result ≡ refusal_of key vector frame out }
 {
     if key != BLOCK_OCTETS {
-        return NOT_A_BLOCK;
+        NOT_A_BLOCK
+    } else if vector != BLOCK_OCTETS {
+        NOT_A_BLOCK
+    } else if out < frame {
+        OUTPUT_TOO_SHORT
+    } else if frame < CLEAR_OCTETS {
+        FRAME_TOO_SHORT
+    } else {
+        DONE
     }
-    if vector != BLOCK_OCTETS {
-        return NOT_A_BLOCK;
-    }
-    if out < frame {
-        return OUTPUT_TOO_SHORT;
-    }
-    if frame < CLEAR_OCTETS {
-        return FRAME_TOO_SHORT;
-    }
-    DONE
 }
 
 // Seals a frame, or says why not and writes nothing.

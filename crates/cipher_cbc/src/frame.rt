@@ -5,9 +5,6 @@ ghost use Rattle.cipher_cbc.specs.Cbc.{seal_aes, open_aes};
 use crate::block::load;
 use crate::chaining::{open_with, seal_with};
 use cipher_aes::decryption::inverse_schedule;
-use cipher_aes::decryption_table::decryption_table;
-use cipher_aes::encryption_table::encryption_table;
-use cipher_aes::inverse_sbox::inverse_sbox;
 use cipher_aes::keys::expand;
 
 // Writes the sealed frame to the front of `out`; the octets behind it stay.
@@ -18,11 +15,8 @@ pub fn seal_frame(key: &[u8], vector: &[u8], frame: &[u8], out: &mut [u8])
     requires frame_in_bounds { length frame.now ≤ length out.old }
     ensures { out.new ≡ seal_aes key.now vector.now frame.now ++ drop (length frame.now) out.old }
 {
-    let e = encryption_table();
-    let k = load(key, 0);
-    let w = expand(&e, k);
-    let v = load(vector, 0);
-    seal_with(&e, &w, v, frame, out);
+    let keys = expand(load(key, 0));
+    seal_with(&keys, load(vector, 0), frame, out);
 }
 
 // Writes the opened frame to the front of `out`; the octets behind it stay.
@@ -33,12 +27,7 @@ pub fn open_frame(key: &[u8], vector: &[u8], frame: &[u8], out: &mut [u8])
     requires frame_in_bounds { length frame.now ≤ length out.old }
     ensures { out.new ≡ open_aes key.now vector.now frame.now ++ drop (length frame.now) out.old }
 {
-    let e = encryption_table();
-    let t = decryption_table();
-    let i = inverse_sbox();
-    let k = load(key, 0);
-    let v = load(vector, 0);
-    let w = expand(&e, k);
-    let x = inverse_schedule(&e, &t, &w);
-    open_with(&e, &t, &i, &w, &x, v, frame, out);
+    let keys = expand(load(key, 0));
+    let mixed = inverse_schedule(&keys);
+    open_with(&keys, &mixed, load(vector, 0), frame, out);
 }

@@ -7,8 +7,7 @@ use native.Mathlib.Omega.{arith}
 use lib.Dec.{leb}
 use lib.ListN.{length}
 use borrow.Author.Tests.{leb-true}
-use Rattle.questions.specs.declared.refusal.Answer.{Answer}
-use Rattle.questions.specs.declared.refusal.Answer.TheVariants.{Done, Refused}
+use Rattle.questions.specs.Answer.{Answer, Done, Refused}
 use Rattle.key_traffic.specs.Octets.{overlay}
 use Rattle.questions.specs.Refusal.{answer_number_of}
 use Rattle.message_rules.specs.declared.fields.Receiver.TheVariants.{Modem}

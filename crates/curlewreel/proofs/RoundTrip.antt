@@ -10,8 +10,7 @@ use lib.Dec.{leb, eqb}
 use lib.ListN.{length, get_or, take, drop, length-append}
 use lib.Seq.{length-take-le}
 use borrow.Author.Tests.{leb-true, le-leb, eq-eqb, eqb-true}
-use Rattle.questions.specs.declared.refusal.Answer.{Answer}
-use Rattle.questions.specs.declared.refusal.Answer.TheVariants.{Done}
+use Rattle.questions.specs.Answer.{Answer, Done}
 use Rattle.questions.specs.Refusal.{answer_number_of}
 use Rattle.questions.proofs.AnswerLaws.{done_met, met_done}
 use Rattle.questions.proofs.TestLaws.{both}

@@ -1,7 +1,6 @@
 -- The reading of a message for C (document 01, questions 1, 2, 6 to 9, and the half of 11 that needs no state; document 02, M-100).
 use Rattle.std.specs.Prelude.{◌≡◌, ◌&&◌, List, [], ◌∷◌, ℕ, zero, suc, leb}
-use Rattle.questions.specs.declared.refusal.Answer.{Answer}
-use Rattle.questions.specs.declared.refusal.Answer.TheVariants.{Done, Refused}
+use Rattle.questions.specs.Answer.{Answer, Done, Refused}
 use Rattle.questions.specs.declared.refusal.Refusal.TheVariants.{OutOfLimits, WrongLength}
 use Rattle.key_traffic.specs.Octets.{overlay}
 use Rattle.questions.specs.Questions.{Question, first_no}

@@ -6,15 +6,14 @@ ghost use Rattle.headend_frames.specs.FrameCalls.{seal_of, open_of, seal_frame_v
 ghost use Rattle.curlewreel.specs.ModemCalls.{FrameSeals, OctetsSeal};
 ghost use Rattle.curlewreel.specs.HeadEndCalls.{head_end_call, HeadEndLists, HeadEndClocks, HeadEndReceives, HeadEndOpens, HeadEndOpensOctets};
 
-use crate::headend_values::{
-    HeadEndCall, HeadEndOpening, headend_call, headend_opening, tek_number,
-};
+use crate::headend_values::{HeadEndCall, HeadEndOpening, headend_call, headend_opening};
 use crate::modem_values::{FrameSealed, frame_sealed};
 use headend_calls::calls::{clock, list, new, receive};
 use headend_calls::frames::{open, open_frame, seal, seal_frame};
 use headend_state::state::HeadEnd;
 use key_association::listing::Listing;
 use key_association::record::Assoc;
+use key_traffic::numbers::TekNumber;
 use questions::settings::Settings;
 
 // A fresh head-end at clock 0; where it is refused, one that is all zero.
@@ -110,9 +109,17 @@ pub extern "C" fn curlewreel_headend_open(
     ensures { HeadEndOpens (open_of h records.now direction address said (record { 0 = number }) write_key.now (length tek.old) (length vector.old) (length invalid.old))
         tek.old vector.old invalid.old result tek.new vector.new invalid.new }
 {
-    let n = tek_number(number);
     let c = open(
-        h, records, direction, address, said, n, write_key, tek, vector, invalid,
+        h,
+        records,
+        direction,
+        address,
+        said,
+        TekNumber(number),
+        write_key,
+        tek,
+        vector,
+        invalid,
     );
     headend_opening(c)
 }
@@ -152,9 +159,17 @@ pub extern "C" fn curlewreel_headend_open_frame(
     ensures { HeadEndOpensOctets (open_frame_value h records.now direction address said (record { 0 = number }) octets.now write_key.now (length opened.old) (length invalid.old))
         opened.old invalid.old result opened.new invalid.new }
 {
-    let n = tek_number(number);
     let c = open_frame(
-        h, records, direction, address, said, n, octets, write_key, opened, invalid,
+        h,
+        records,
+        direction,
+        address,
+        said,
+        TekNumber(number),
+        octets,
+        write_key,
+        opened,
+        invalid,
     );
     headend_opening(c)
 }

@@ -4,7 +4,6 @@ ghost use Rattle.curlewreel.specs.HeadEndCalls.{head_end_call, head_end_opening}
 
 use headend_frames::frames::OpenedCall;
 use headend_state::state::{Called, HeadEnd};
-use key_traffic::numbers::TekNumber;
 use questions::refusal::answer_number;
 
 // What a call answers: document 01's number, how many octets of an answer were written, and the head-end after it.
@@ -20,13 +19,10 @@ pub struct HeadEndCall {
 pub fn headend_call(c: Called) -> HeadEndCall
     ensures { result ≡ head_end_call c }
 {
-    let a = c.answer;
-    let h = c.state;
-    let number = answer_number(a);
     HeadEndCall {
-        number: number,
+        number: answer_number(c.answer),
         count: c.count,
-        headend: h,
+        headend: c.state,
     }
 }
 
@@ -45,20 +41,10 @@ pub struct HeadEndOpening {
 pub fn headend_opening(c: OpenedCall) -> HeadEndOpening
     ensures { result ≡ head_end_opening c }
 {
-    let a = c.answer;
-    let h = c.state;
-    let number = answer_number(a);
     HeadEndOpening {
-        number: number,
+        number: answer_number(c.answer),
         width: c.width,
         count: c.count,
-        headend: h,
+        headend: c.state,
     }
-}
-
-// A frame's key number, as C gives it.
-pub fn tek_number(number: u8) -> TekNumber
-    ensures { result ≡ record { 0 = number } }
-{
-    TekNumber(number)
 }

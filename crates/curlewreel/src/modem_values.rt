@@ -20,13 +20,10 @@ pub struct ModemCall {
 pub fn modem_call(c: Called) -> ModemCall
     ensures { result ≡ modem_call_of c }
 {
-    let a = c.answer;
-    let m = c.modem;
-    let number = answer_number(a);
     ModemCall {
-        number: number,
+        number: answer_number(c.answer),
         count: c.count,
-        modem: m,
+        modem: c.modem,
     }
 }
 
@@ -43,12 +40,9 @@ pub struct FrameSealed {
 pub fn frame_sealed(c: SealedCall) -> FrameSealed
     ensures { result ≡ frame_sealed_of c }
 {
-    let a = c.answer;
-    let k = c.number;
-    let number = answer_number(a);
     FrameSealed {
-        number: number,
-        key: k.0,
+        number: answer_number(c.answer),
+        key: c.number.0,
         width: c.width,
     }
 }
@@ -68,13 +62,10 @@ pub struct ModemOpening {
 pub fn modem_opening(c: OpenedCall) -> ModemOpening
     ensures { result ≡ modem_opening_of c }
 {
-    let a = c.answer;
-    let m = c.modem;
-    let number = answer_number(a);
     ModemOpening {
-        number: number,
+        number: answer_number(c.answer),
         width: c.width,
         count: c.count,
-        modem: m,
+        modem: c.modem,
     }
 }

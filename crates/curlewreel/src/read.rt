@@ -7,7 +7,7 @@ use crate::words::END_MAX;
 use c_layout::layout::{FIELDS, put_reading};
 use message_digest::digest::{is_digest_right, message_key_fits};
 use message_reader::read::read_alone;
-use questions::refusal::{DONE, OUT_OF_LIMITS, WRONG_LENGTH, answer_number};
+use questions::refusal::{DONE, OUT_OF_LIMITS, WRONG_LENGTH};
 
 // Reads `message` at the head-end (`end` is 0) or at the modem (1): its fields, two places and whether its digest holds under `read_key` go to
 // the first 118 octets of `fields`, and the answer is 0. Refused with 1, 2, 6 to 9 or 11, and then nothing is written; never with 12, which
@@ -23,13 +23,12 @@ pub extern "C" fn curlewreel_read(end: u8, message: &[u8], read_key: &[u8], fiel
         return WRONG_LENGTH;
     }
     let r = read_alone(receiver(end), message);
-    let answer = r.answer;
-    let number = answer_number(answer);
-    if number != DONE {
-        return number;
+    match r.answer {
+        Ok(()) => {
+            let holds = is_digest_right(message, r.digest, read_key);
+            put_reading(fields, r, holds);
+            DONE
+        }
+        Err(no) => u8::from(no),
     }
-    let place = r.digest;
-    let holds = is_digest_right(message, place, read_key);
-    let n = put_reading(fields, r, holds);
-    DONE
 }

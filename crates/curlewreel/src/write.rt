@@ -5,7 +5,7 @@ ghost use Rattle.curlewreel.specs.Write.{write_call_of, Writes};
 use c_layout::layout::{FIELDS_WRITTEN, fields_from};
 use message_writer::limits::fields_fit;
 use message_writer::write::write;
-use questions::refusal::{OUT_OF_LIMITS, WRONG_LENGTH, answer_number};
+use questions::refusal::{DONE, OUT_OF_LIMITS, WRONG_LENGTH};
 
 // The answer, and how many octets were written.
 #[repr(C)]
@@ -40,11 +40,14 @@ pub extern "C" fn curlewreel_write(
             count: 0,
         };
     }
-    let w = write(f, auth_key, write_key, out);
-    let answer = w.answer;
-    let number = answer_number(answer);
-    Written {
-        number,
-        count: w.count,
+    match write(f, auth_key, write_key, out) {
+        Ok(count) => Written {
+            number: DONE,
+            count,
+        },
+        Err(no) => Written {
+            number: u8::from(no),
+            count: 0,
+        },
     }
 }

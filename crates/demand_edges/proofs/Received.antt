@@ -9,8 +9,7 @@ use lib.Dec.{leb, eqb}
 use lib.ListN.{length, set, take}
 use lib.Seq.{get_or-set_same}
 use borrow.Author.Tests.{ltb-true, eq-eqb, le-leb}
-use Rattle.questions.specs.declared.refusal.Answer.{Answer}
-use Rattle.questions.specs.declared.refusal.Answer.TheVariants.{Done, Refused}
+use Rattle.questions.specs.Answer.{Answer, Done, Refused}
 use Rattle.questions.specs.declared.refusal.Refusal.{Refusal}
 use Rattle.questions.specs.declared.refusal.Refusal.TheVariants.{CutMessage, BadAttribute, WrongIdentifier}
 use Rattle.questions.specs.Questions.{first_no}

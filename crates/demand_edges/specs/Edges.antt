@@ -2,7 +2,7 @@
 -- second 0; the SAID, its suite, the octets k lent with the listing and m lent with the clock call are any (in the rows over the calls 64 octets, and one m
 -- for all fifteen clock calls to generation 16).
 use Rattle.std.specs.Prelude.{◌≡◌, ℕ, ◌≤◌, List, [], ◌∷◌, length, set, take, true}
-use Rattle.questions.specs.declared.refusal.Answer.TheVariants.{Done}
+use Rattle.questions.specs.Answer.{Done}
 use Rattle.questions.specs.Refusal.{answer_number_of}
 use Rattle.message_rules.specs.declared.fields.Params.{Params}
 use Rattle.message_rules.specs.declared.fields.Receiver.TheVariants.{Modem as AtModem}

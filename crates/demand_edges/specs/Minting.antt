@@ -2,8 +2,7 @@
 -- lent records, and the clock is called with 64 octets of any material. All else about the settings, the address and the SAID is any.
 use Rattle.std.specs.Prelude.{◌≡◌, true, List, [], ◌∷◌, ℕ, ◌≤◌, length, take, replicate}
 use Rattle.questions.specs.declared.settings.Settings.{Settings}
-use Rattle.questions.specs.declared.refusal.Answer.{Answer}
-use Rattle.questions.specs.declared.refusal.Answer.TheVariants.{Done}
+use Rattle.questions.specs.Answer.{Answer, Done}
 use Rattle.questions.specs.Settings.{settings_fit_of}
 use Rattle.key_traffic.specs.Addresses.{said_fits_of, address_fits_of}
 use Rattle.key_traffic.specs.Suites.{suite_known_of}

@@ -3,7 +3,7 @@
 -- machines due at once.
 use Rattle.std.specs.Prelude.{◌≡◌, List, [], ◌∷◌, ◌++◌, ℕ, replicate}
 use Rattle.questions.specs.declared.settings.Settings.{Settings}
-use Rattle.questions.specs.declared.refusal.Answer.TheVariants.{Done}
+use Rattle.questions.specs.Answer.{Done}
 use Rattle.key_traffic.specs.declared.traffic.TrafficKey.{TrafficKey}
 use Rattle.modem_tek.specs.declared.parts.Request.{Request}
 use Rattle.modem_tek.specs.declared.tek.Tek.{Tek}

@@ -1,7 +1,7 @@
 -- The rows on the modem as its calls give them (document 01, "Edges"), for every modem within its limits in the state that a row names. Lent are
 -- at least 216 octets and any message keys of 20; a modem has four slots, as declared.
 use Rattle.std.specs.Prelude.{◌≡◌, ◌⊎◌, true, List, [], ◌∷◌, ℕ, ◌+◌, set, take}
-use Rattle.questions.specs.declared.refusal.Answer.TheVariants.{Done}
+use Rattle.questions.specs.Answer.{Done}
 use Rattle.questions.specs.declared.refusal.Refusal.{Refusal}
 use Rattle.questions.specs.declared.refusal.Refusal.TheVariants.{CutMessage, BadAttribute, WrongIdentifier}
 use Rattle.message_rules.specs.declared.fields.Receiver.TheVariants.{Modem as AtModem}

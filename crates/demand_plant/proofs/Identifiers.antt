@@ -8,8 +8,7 @@ use native.Mathlib.Omega.{arith}
 use lib.Dec.{ltb, leb, eqb}
 use borrow.Author.Tests.{ltb-true, lt-ltb, eq-eqb, ne_eqb}
 use Rattle.questions.specs.declared.settings.Settings.{Settings}
-use Rattle.questions.specs.declared.refusal.Answer.{Answer}
-use Rattle.questions.specs.declared.refusal.Answer.TheVariants.{Done, Refused}
+use Rattle.questions.specs.Answer.{Answer, Done, Refused}
 use Rattle.questions.specs.declared.refusal.Refusal.TheVariants.{OutOfLimits, WrongLength, CutMessage, CodeNotReceived, BadAttribute, WrongAttributes, UnknownSaid, DigestFails}
 use Rattle.questions.specs.Questions.{first_no}
 use Rattle.questions.specs.Refusal.{answer_number_of}

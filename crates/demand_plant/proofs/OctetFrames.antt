@@ -12,8 +12,7 @@ use lib.Seq.{take_all}
 use borrow.Author.Tests.{leb-true, le-leb, ltb-true, eqb-true, eq-eqb}
 use Rattle.key_traffic.specs.declared.numbers.TekNumber.{TekNumber}
 use Rattle.key_traffic.specs.declared.traffic.TrafficKey.{TrafficKey}
-use Rattle.questions.specs.declared.refusal.Answer.{Answer}
-use Rattle.questions.specs.declared.refusal.Answer.TheVariants.{Done}
+use Rattle.questions.specs.Answer.{Answer, Done}
 use Rattle.questions.specs.Refusal.{answer_number_of}
 use Rattle.questions.proofs.ListLaws.{Each}
 use Rattle.questions.proofs.TestLaws.{both}

@@ -8,8 +8,7 @@ use Prim.Native.Nat.{ℕ, zero, suc, ◌+◌, ◌*◌, ◌≤◌}
 use native.Mathlib.Omega.{arith}
 use lib.ListN.{length, take, drop, replicate}
 use Rattle.key_traffic.specs.declared.numbers.TekNumber.{TekNumber}
-use Rattle.questions.specs.declared.refusal.Answer.{Answer}
-use Rattle.questions.specs.declared.refusal.Answer.TheVariants.{Done, Refused}
+use Rattle.questions.specs.Answer.{Answer, Done, Refused}
 use Rattle.questions.specs.declared.settings.Settings.{Settings}
 use Rattle.questions.specs.Settings.{settings_fit_of}
 use Rattle.questions.specs.Refusal.{answer_number_of}

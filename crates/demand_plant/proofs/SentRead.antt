@@ -10,8 +10,7 @@ use lib.Seq.{take-append_seam, drop-append_seam}
 use lib.Dec.{eqb}
 use Rattle.key_traffic.specs.declared.numbers.TekNumber.{TekNumber}
 use Rattle.questions.specs.declared.refusal.Refusal.TheVariants.{NoKeyForFrame}
-use Rattle.questions.specs.declared.refusal.Answer.{Answer}
-use Rattle.questions.specs.declared.refusal.Answer.TheVariants.{Done, Refused}
+use Rattle.questions.specs.Answer.{Answer, Done, Refused}
 use Rattle.questions.specs.Refusal.{answer_number_of}
 use Rattle.questions.proofs.ListLaws.{Each, each_nil, each_cons}
 use Rattle.questions.proofs.TestLaws.{both}

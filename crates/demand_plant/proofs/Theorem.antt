@@ -9,7 +9,7 @@ use lib.Dec.{leb}
 use borrow.Author.Tests.{le-leb}
 use Rattle.key_traffic.specs.declared.numbers.TekNumber.{TekNumber}
 use Rattle.questions.specs.declared.settings.Settings.{Settings}
-use Rattle.questions.specs.declared.refusal.Answer.TheVariants.{Done}
+use Rattle.questions.specs.Answer.{Done}
 use Rattle.questions.specs.Settings.{half_of, settings_fit_of}
 use Rattle.questions.proofs.ListLaws.{each_nil}
 use Rattle.key_association.specs.declared.record.Assoc.{Assoc}

@@ -2,8 +2,7 @@
 -- calls with their lent material alone, from no record and no end's state but for which calls were accepted. A listing's second is read off the
 -- head-end's clock; it is that of the last accepted clock call before it, or 0 (`SecondsGiven` below, a part of the claim).
 use Rattle.std.specs.Prelude.{◌≡◌, Bool, true, false, List, [], ◌∷◌, ◌++◌, map, ℕ, ◌<◌, eqb, get_or, take}
-use Rattle.questions.specs.declared.refusal.Answer.{Answer}
-use Rattle.questions.specs.declared.refusal.Answer.TheVariants.{Done, Refused}
+use Rattle.questions.specs.Answer.{Answer, Done, Refused}
 use Rattle.key_association.specs.declared.record.Assoc.{Assoc}
 use Rattle.key_association.specs.Made.{Made, SaidSuite, Accepted, key_of, keys_made}
 use Rattle.key_association.specs.Made.{listing as madeByListing, clock as madeByClock}

@@ -6,8 +6,7 @@ use mathlib.Core.List.{List, [], ◌∷◌, ◌++◌}
 use Prim.Native.Nat.{ℕ}
 use lib.Dec.{leb, eqb, ltb}
 use lib.ListN.{length, take, drop}
-use Rattle.questions.specs.declared.refusal.Answer.{Answer}
-use Rattle.questions.specs.declared.refusal.Answer.TheVariants.{Done, Refused}
+use Rattle.questions.specs.Answer.{Answer, Done, Refused}
 use Rattle.questions.specs.Questions.{first_no}
 use Rattle.questions.specs.Refusal.{answer_number_of}
 use Rattle.key_traffic.specs.declared.numbers.TekNumber.{TekNumber}

@@ -1,27 +1,15 @@
 -- A digest in the slice that it covers: stored, it holds; what holding says; and its length.
 use mathlib.Core.Path.{◌≡◌, refl, sym, ap, ◌∙◌}
-use mathlib.Core.Bool.{Bool, true, false}
-use mathlib.Core.List.{List, [], ◌∷◌, ◌++◌, append_assoc}
-use Prim.Native.Nat.{ℕ, suc, ◌+◌, ◌-◌, ◌≤◌, ◌<◌}
-use native.Mathlib.Nat.{add-zero, add-suc, suc-add}
-use native.Mathlib.Numerals.{add-one}
+use mathlib.Core.Bool.{Bool, true, false, ◌&&◌}
+use mathlib.Core.List.{List, ◌++◌, append_assoc}
+use Prim.Native.Nat.{ℕ, ◌+◌, ◌-◌, ◌≤◌, ◌<◌}
 use native.Mathlib.Omega.{arith}
-use lib.ListN.{length, get_or, take, drop, set, length-take, length-drop}
-use lib.Seq.{sets, sets-eq, take-suc, take_at, drop_at, take-take, take-append-le, length-take-le}
-use Rattle.digest_hmac.specs.Hmac.{hmac, outer, same, holds, filled}
+use lib.Dec.{leb}
+use borrow.Author.Tests.{lt-leb}
+use lib.ListN.{length, take, drop, length-take, length-drop}
+use lib.Seq.{sets-eq, take_at, drop_at, take-take, take-append-le, length-take-le}
+use Rattle.digest_hmac.specs.Hmac.{hmac, outer, same, holds, holds_within, filled}
 use Rattle.digest_hmac.proofs.SameLaws.{same_refl, same_equal}
-
--- storing one more octet behind those stored
-sets_snoc : (vs l : List ℕ) (i v : ℕ) → sets l i (vs ++ v ∷ []) ≡ set (sets l i vs) (i + length vs) v
-sets_snoc [] l i v = rw add-zero
-sets_snoc (x ∷ vs) l i v = rw (sets_snoc vs (set l i x) (suc i) v, suc-add, add-suc)
-
--- one more octet of a digest stored
-pub put_more : (d l : List ℕ) (at i : ℕ) → i < length d → set (sets l at (take i d)) (at + i) (get_or d i 0) ≡ sets l at
-    (take (i + 1) d)
-put_more d l at i h =
-    let e : length (take i d) ≡ i = length-take-le i d (omega arith) in
-    rw (add-one i, take-suc d i 0, sets_snoc (take i d) l at (get_or d i 0), e)
 
 -- a digest has 20 octets
 pub length_hmac : (k m : List ℕ) → length (hmac k m) ≡ 20
@@ -68,3 +56,16 @@ holds_short m upto k at l = go (same (hmac k (take upto m)) (take 20 (drop at m)
         let f = same_equal (hmac k (take upto m)) (take 20 (drop at m)) e in
         let n : length (take 20 (drop at m)) ≡ 20 = sym (ap length f) ∙ length_hmac k (take upto m) in
         absurd (omega (arith, simp (length-take, length-drop) at n))
+
+-- what the exported comparison answers where its bound is not in the message, and where its digest is not
+pub above_within : (m : List ℕ) (upto : ℕ) (k : List ℕ) (at : ℕ) → length m < upto → false ≡ holds_within m upto k at
+unfolding holds_within
+above_within m upto k at l = rw (lt-leb upto (length m) l)
+
+pub short_within : (m : List ℕ) (upto : ℕ) (k : List ℕ) (at : ℕ) → length m < at + 20 → false ≡ holds_within m upto k at
+unfolding holds_within
+short_within m upto k at l = rw (holds_short m upto k at l) (go (leb upto (length m)))
+  where
+    go : (t : Bool) → false ≡ t && false
+    go true = refl
+    go false = refl

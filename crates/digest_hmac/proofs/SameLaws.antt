@@ -2,14 +2,12 @@
 use mathlib.Core.Path.{◌≡◌, refl}
 use mathlib.Core.Bool.{Bool, true, false, ◌&&◌}
 use mathlib.Core.List.{List, [], ◌∷◌}
-use Prim.Native.Nat.{ℕ, zero, suc, ◌+◌, ◌<◌}
-use native.Mathlib.Nat.{not-suc-le-zero, le_of_suc-le-suc}
-use native.Mathlib.Numerals.{add-one}
+use Prim.Native.Nat.{ℕ}
 use native.Mathlib.Omega.{arith}
 use borrow.Author.Tests.{eq-eqb, ne_eqb, eqb-true, eqb-false}
 use lib.Bits.{bit_xor, xor_self}
 use lib.Dec.{eqb}
-use lib.ListN.{length, get_or, take}
+use lib.ListN.{length}
 use Rattle.digest_hmac.specs.Hmac.{same, Collects}
 
 -- the step of the comparison as tests
@@ -31,23 +29,21 @@ and-true : (p : Bool) → p && true ≡ p
 and-true true = refl
 and-true false = refl
 
-and_assoc : (p q r : Bool) → p && (q && r) ≡ (p && q) && r
+and_assoc : (p q r : Bool) → (p && q) && r ≡ p && (q && r)
 and_assoc true q r = refl
 and_assoc false q r = refl
 
-same_suc : (i : ℕ) (a b : List ℕ) → i < length a → i < length b
-    → same (take (suc i) a) (take (suc i) b) ≡ same (take i a) (take i b) && eqb (get_or a i 0) (get_or b i 0)
+-- one more octet compared: d, and what is left of both lists, decide as r, and what is left behind x and y
+pub same_step : (d x y r : ℕ) (a b : List ℕ) → Collects d x y r → eqb r 0 && same a b ≡ eqb d 0 && same (x ∷ a) (y ∷ b)
 unfolding same
-same_suc i [] b h k = absurd (not-suc-le-zero h)
-same_suc i (x ∷ a) [] h k = absurd (not-suc-le-zero k)
-same_suc zero (x ∷ a) (y ∷ b) h k = and-true (eqb x y)
-same_suc (suc i) (x ∷ a) (y ∷ b) h k =
-    rw (same_suc i a b (le_of_suc-le-suc h) (le_of_suc-le-suc k), and_assoc)
+same_step d x y r a b e = rw (collects_test d x y r e, and_assoc)
 
--- one more octet compared
-pub same_more : (a b : List ℕ) (r d i : ℕ) → i < length a → i < length b → eqb d 0 ≡ same (take i a) (take i b)
-    → Collects d (get_or a i 0) (get_or b i 0) r → eqb r 0 ≡ same (take (i + 1) a) (take (i + 1) b)
-same_more a b r d i h k e f = rw (add-one i, same_suc i a b h k, ← e) (collects_test d (get_or a i 0) (get_or b i 0) r f)
+-- nothing is left of both
+pub same_end : (p : Bool) (a b : List ℕ) → length a ≡ length b → length a ≡ 0 → p && same a b ≡ p
+unfolding same
+same_end p [] [] e z = and-true p
+same_end p [] (y ∷ b) e z = absurd (omega arith)
+same_end p (x ∷ a) b e z = absurd (omega arith)
 
 -- `same` is equality: it is true of equal lists, and of no others
 pub same_refl : (a : List ℕ) → same a a ≡ true

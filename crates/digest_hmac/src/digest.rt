@@ -18,14 +18,15 @@ pub fn same20(d: [u8; DIGEST_OCTETS], s: &[u8], at: usize) -> bool
     requires { at + 20 ≤ length s.now }
     ensures { result ≡ spec.same d (take 20 (drop at s.now)) }
 {
-    let mut differ: u8 = 0;
-    for i in 0..DIGEST_OCTETS {
-        differ = differing(differ, d[i], s[at + i]);
+    let mut differ = 0;
+    for (x, y) in d.iter().zip(&s[at..at + DIGEST_OCTETS]) {
+        differ = differing(differ, *x, *y);
     }
     differ == 0
 }
 
 // Whether the 20 octets from `at` on are the HMAC (RFC 2104 section 2) of the octets before `upto`.
+#[tactic(auto, unfolding(crate::specs::Hmac::holds))]
 pub fn digest_holds(message: &[u8], upto: usize, key: &[u8], at: usize) -> bool
     requires { (upto ≤ length message.now) × (at + 20 ≤ length message.now) }
     ensures { result ≡ spec.holds message.now upto key.now at }
@@ -39,12 +40,11 @@ pub fn put20(out: &mut [u8], at: usize, d: [u8; DIGEST_OCTETS])
     requires { at + 20 ≤ length out.old }
     ensures { out.new ≡ sets out.old at d }
 {
-    for k in 0..DIGEST_OCTETS {
-        out[at + k] = d[k];
-    }
+    out[at..at + DIGEST_OCTETS].copy_from_slice(&d);
 }
 
 // Stores the HMAC (RFC 2104 section 2) of the octets before `upto` from `at` on.
+#[tactic(auto, unfolding(crate::specs::Hmac::filled))]
 pub fn fill_digest(message: &mut [u8], upto: usize, key: &[u8], at: usize)
     requires { (upto ≤ length message.old) × (at + 20 ≤ length message.old) }
     ensures { message.new ≡ spec.filled message.old upto key.now at }

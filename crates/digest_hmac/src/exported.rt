@@ -10,14 +10,12 @@ use digest_sha1::sizes::DIGEST_OCTETS;
 pub extern "C" fn digest_hmac_holds(message: &[u8], upto: usize, key: &[u8], at: usize) -> bool
     ensures { result ≡ spec.holds_within message.now upto key.now at }
 {
-    if message.len() < upto {
-        return false;
+    if upto <= message.len()
+        && DIGEST_OCTETS <= message.len()
+        && at <= message.len() - DIGEST_OCTETS
+    {
+        digest_holds(message, upto, key, at)
+    } else {
+        false
     }
-    if message.len() < DIGEST_OCTETS {
-        return false;
-    }
-    if message.len() - DIGEST_OCTETS < at {
-        return false;
-    }
-    digest_holds(message, upto, key, at)
 }

@@ -39,10 +39,10 @@ pub fn hmac(key: &[u8], m: &[u8]) -> [u8; DIGEST_OCTETS]
     ensures { result ≡ spec.hmac key.now m.now }
 {
     if key.len() <= BLOCK_OCTETS {
-        return block_hmac(key, m);
+        block_hmac(key, m)
+    } else {
+        block_hmac(&octets(sha1(key)), m)
     }
-    let k = octets(sha1(key));
-    block_hmac(&k, m)
 }
 
 // HMAC-SHA-1 (section 2) of the octets of `s` from `a` up to `b`.

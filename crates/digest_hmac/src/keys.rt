@@ -18,12 +18,12 @@ fn key_block(key: &[u8], pad: u8) -> [u8; BLOCK_OCTETS]
     requires { length key.now ≤ 64 }
     ensures { result ≡ spec.key_block_of key.now pad }
 {
-    let mut b = [pad; BLOCK_OCTETS];
-    let n = key.len();
-    for i in 0..n {
-        b[i] = key[i] ^ pad;
+    let mut block = [0u8; BLOCK_OCTETS];
+    block[..key.len()].copy_from_slice(key);
+    for x in &mut block {
+        *x ^= pad;
     }
-    b
+    block
 }
 
 // The hash value after the key's block, with which both hashes of section 2 begin.

@@ -1,7 +1,6 @@
 -- Hash values over several blocks, and over the last one or two.
-use Rattle.std.proofs.Common.{◌≡◌, ℕ, zero, suc, ◌+◌, ◌-◌, ◌*◌, ◌/◌, ◌%◌, ◌<◌, ◌≤◌, List, ◌∷◌, ◌++◌, length, take, drop, replicate, sym, refl, ap, append_assoc, add-zero, add-suc, add-one, arith, length-append, length-drop, length-take, take_all, drop-drop, take_at, drop_at}
+use Rattle.std.proofs.Common.{◌≡◌, ℕ, zero, suc, ◌+◌, ◌-◌, ◌*◌, ◌/◌, ◌%◌, ◌<◌, ◌≤◌, List, ◌∷◌, ◌++◌, length, take, drop, replicate, sym, refl, ap, append_assoc, add-zero, add-suc, arith, length-append, take_all, drop-drop, take_at, drop_at}
 use lib.ListN.{length-replicate, replicate-append-replicate}
-use lib.Seq.{take-append-le, drop-append-le}
 use Rattle.digest_sha1.specs.declared.value.Hash.{Hash}
 use Rattle.digest_sha1.specs.Sha1.{block, blocks, all_blocks, compress, finish, initial, sha1, padding, zeros, octets8, marked}
 
@@ -17,51 +16,6 @@ pub blocks_add : (h : Hash) (s : List ℕ) (q k : ℕ) → blocks h s (q + k) �
 unfolding blocks
 blocks_add h s q zero = rw add-zero
 blocks_add h s q (suc k) = rw (add-suc, blocks_add h s q k, block_drop s q k)
-
--- a whole block of s does not hang on what follows s
-block_front : (s p : List ℕ) (i : ℕ) → 64 * i + 64 ≤ length s → block (s ++ p) i ≡ block s i
-unfolding block
-block_front s p i h =
-    let a : 64 * i ≤ length s = omega arith in
-    let b : 64 ≤ length (drop (64 * i) s) = simp length-drop (omega arith) in
-    rw (drop-append-le (64 * i) s p a, take-append-le 64 (drop (64 * i) s) p b)
-
-blocks_front : (h : Hash) (s p : List ℕ) (q : ℕ) → 64 * q ≤ length s → blocks h (s ++ p) q ≡ blocks h s q
-unfolding blocks
-blocks_front h s p zero l = refl
-blocks_front h s p (suc q) l = rw (blocks_front h s p q (omega arith), block_front s p q (omega arith))
-
--- one more block, as a loop has it
-pub one_more : (h g r : Hash) (m : List ℕ) (i : ℕ) → g ≡ blocks h m i → r ≡ compress g (take (64 * i + 64 - 64 * i)
-    (drop (64 * i) m)) → r ≡ blocks h m (i + 1)
-unfolding blocks block
-one_more h g r m i e f =
-    let k : 64 * i + 64 - 64 * i ≡ 64 = omega arith in
-    rw (add-one, ← e) (rw k at f)
-
-pub part_length : (m : List ℕ) (i : ℕ) → i < length m / 64 → length (take (64 * i + 64 - 64 * i) (drop (64 * i) m)) ≡ 64
-part_length m i h = simp (length-take, length-drop) (omega arith)
-
--- the whole blocks first, and then the rest
-rest_part : (m : List ℕ) (q : ℕ) → take (length m - 64 * q) (drop (64 * q) m) ≡ drop (64 * q) m
-rest_part m q = take_all (length m - 64 * q) (drop (64 * q) m) (omega (arith, length-drop (64 * q) m))
-
-pub rest_length : (m : List ℕ) (n : ℕ) → n % 64 ≡ length m % 64
-    → n % 64 ≡ length (take (length m - 64 * (length m / 64)) (drop (64 * (length m / 64)) m))
-rest_length m n e = rw (rest_part m (length m / 64), length-drop) (omega arith)
-
-finish_split : (h : Hash) (m : List ℕ) (n q : ℕ) → q ≡ length m / 64 → finish (blocks h m q) (drop (64 * q) m) n ≡ finish h m n
-unfolding finish all_blocks
-finish_split h m n q e =
-    let p = padding n in
-    let l : 64 * q ≤ length m = omega arith in
-    let d : drop (64 * q) (m ++ p) ≡ drop (64 * q) m ++ p = drop-append-le (64 * q) m p l in
-    let c : length (m ++ p) / 64 ≡ q + length (drop (64 * q) m ++ p) / 64 = simp (length-append, length-drop) (omega arith) in
-    rw (c, blocks_add h (m ++ p) q (length (drop (64 * q) m ++ p) / 64), d, blocks_front h m p q l)
-
-pub finished : (h g r : Hash) (m : List ℕ) (n i : ℕ) → i ≡ length m / 64 → g ≡ blocks h m i
-    → r ≡ finish g (take (length m - 64 * (length m / 64)) (drop (64 * (length m / 64)) m)) n → r ≡ finish h m n
-finished h g r m n i e b f = rw (← finish_split h m n (length m / 64) refl, ← e, ← b, e) (rw (rest_part m (length m / 64)) at f)
 
 length_octets8 : (x : ℕ) → length (octets8 x) ≡ 8
 unfolding octets8
@@ -129,16 +83,41 @@ module _ (h : Hash) (s : List ℕ) (n : ℕ) (rest : n % 64 ≡ length s) where
       rw (padded_long l, k, take_at (marked s) (two n) 64 o, drop_at (marked s) (two n) 64 o, t) (ap (compress
       (compress h (marked s))) (two_is n))
 
-first : (p s : List ℕ) → length p ≡ 64 → blocks initial (p ++ s) 1 ≡ compress initial p
+first : (h : Hash) (p s : List ℕ) → length p ≡ 64 → blocks h (p ++ s) 1 ≡ compress h p
 unfolding blocks block
-first p s l = rw (take_at p s 64 l)
+first h p s l = rw (take_at p s 64 l)
+
+-- one block of what is left, and then the rest
+pub finish_step : (h : Hash) (p s : List ℕ) (n : ℕ) → length p ≡ 64 → finish (compress h p) s n ≡ finish h (p ++ s) n
+unfolding finish all_blocks
+finish_step h p s n l =
+    let r = s ++ padding n in
+    let c : length (p ++ r) / 64 ≡ 1 + length r / 64 = simp (length-append, l) (omega arith) in
+    let b : blocks h (p ++ r) 1 ≡ compress h p = first h p r l in
+    rw (append_assoc, c, blocks_add h (p ++ r) 1 (length r / 64), b, drop_at p r 64 l)
 
 -- a message that begins with a block p
 pub prefixed : (p m : List ℕ) → length p ≡ 64 → finish (compress initial p) m (64 + length m) ≡ sha1 (p ++ m)
-unfolding sha1 finish all_blocks
+unfolding sha1
 prefixed p m l =
     let n : length (p ++ m) ≡ 64 + length m = simp (length-append, l) in
-    let s = m ++ padding (64 + length m) in
-    let c : length (p ++ s) / 64 ≡ 1 + length s / 64 = simp (length-append, l) (omega arith) in
-    let b : blocks initial (p ++ s) 1 ≡ compress initial p = first p s l in
-    rw (n, append_assoc, c, blocks_add initial (p ++ s) 1 (length s / 64), b, drop_at p s 64 l)
+    rw (n, finish_step initial p m (64 + length m) l)
+
+-- the octets of m that fill no block
+pub rest_of : List ℕ → List ℕ
+rest_of m = drop (length m - length m % 64) m
+
+pub rest_is : (m : List ℕ) → drop (length m - length m % 64) m ≡ rest_of m
+unfolding rest_of
+rest_is m = refl
+
+pub rest_step : (p s : List ℕ) → length p ≡ 64 → rest_of (p ++ s) ≡ rest_of s
+unfolding rest_of
+rest_step p s l =
+    let n : length (p ++ s) ≡ 64 + length s = simp (length-append, l) in
+    let e : 64 + length s - (64 + length s) % 64 ≡ 64 + (length s - length s % 64) = omega arith in
+    rw (n, e, ← drop-drop, drop_at p s 64 l)
+
+pub rest_end : (s : List ℕ) → length s < 64 → rest_of s ≡ s
+unfolding rest_of
+rest_end s h = let e : length s - length s % 64 ≡ 0 = omega arith in rw e

@@ -1,5 +1,5 @@
 -- FIPS 180-4, sections 3.1, 5.1.1, 5.2.1, 5.3.1 and 6.1.2: SHA-1 of a list of octets.
-use Rattle.std.specs.Prelude.{ℕ, zero, suc, ◌+◌, ◌-◌, ◌*◌, ◌/◌, ◌%◌, ◌^◌, List, [], ◌∷◌, ◌++◌, length, take, drop, replicate, nat_lt, slice_index, slice_index_or}
+use Rattle.std.specs.Prelude.{ℕ, zero, suc, ◌+◌, ◌-◌, ◌*◌, ◌/◌, ◌%◌, ◌^◌, List, [], ◌∷◌, ◌++◌, length, take, drop, replicate, nat_lt, ◌≡◌, slice_index, slice_index_or}
 use Rattle.digest_sha1.specs.declared.value.Hash.{Hash}
 use Rattle.digest_sha1.specs.Words.{◌⊕◌, ◌⊞◌, rotl, f, K, pick}
 
@@ -58,6 +58,12 @@ round_at t wt s = round s (f t s.b s.c s.d) (K t) wt
 unfoldable pub rounds : List ℕ → Hash → ℕ → Hash
 rounds w h zero = h
 rounds w h (suc t) = round_at t (slice_index w t) (rounds w h t)
+
+-- 6.1.2, step 3: s is the working variables after t rounds of block b from the hash value h on, and w begins with the first t words of the schedule
+pub record Upto (b : List ℕ) (h : Hash) (w : List ℕ) (s : Hash) (t : ℕ) : Type 0 where
+  pub long : length w ≡ 80
+  pub words : take t w ≡ schedule b t
+  pub vars : s ≡ rounds (schedule b 80) h t
 
 -- 6.1.2, step 4: the words of the hash value plus the working variables
 unfoldable pub added : Hash → Hash → Hash

@@ -14,10 +14,11 @@ fn last_blocks(h: Hash, s: &[u8], n: usize) -> Hash
 {
     let b = marked(s);
     if s.len() < LENGTH_START {
-        return compress(h, &with_length(b, n));
+        compress(h, &with_length(b, n))
+    } else {
+        let g = compress(h, &b);
+        compress(g, &with_length([0u8; BLOCK_OCTETS], n))
     }
-    let g = compress(h, &b);
-    compress(g, &with_length([0u8; BLOCK_OCTETS], n))
 }
 
 // The hash of a message of `n` octets, where `h` is the hash value so far and `m` the octets that are left (6.1.2).
@@ -25,18 +26,17 @@ pub fn finish(h: Hash, m: &[u8], n: usize) -> Hash
     requires { n % 64 ≡ length m.now % 64 }
     ensures { result ≡ spec.finish h m.now n }
 {
+    let blocks = m.chunks_exact(BLOCK_OCTETS);
+    let rest = blocks.remainder();
     let mut g = h;
-    let whole = m.len() / BLOCK_OCTETS;
-    for i in 0..whole {
-        let at = BLOCK_OCTETS * i;
-        let end = at + BLOCK_OCTETS;
-        g = compress(g, &m[at..end]);
+    for block in blocks {
+        g = compress(g, block);
     }
-    let from = BLOCK_OCTETS * whole;
-    last_blocks(g, &m[from..], n)
+    last_blocks(g, rest, n)
 }
 
 // The hash of a message of any length (section 6.1).
+#[tactic(auto, unfolding(crate::specs::Sha1::sha1))]
 pub fn sha1(m: &[u8]) -> Hash
     ensures { result ≡ spec.sha1 m.now }
 {

@@ -3,7 +3,7 @@ ghost use Rattle.std.specs.Prelude.{◌≡◌, ◌<◌, ◌≤◌, length, take}
 ghost use Rattle.digest_sha1.specs.Sha1 as spec;
 
 use crate::sizes::{ROUNDS, WORD_OCTETS, WORDS};
-use crate::words::{rotl1, word};
+use crate::words::word;
 
 // Words that are made before the first round: as many as the first quarter of the rounds takes.
 pub const FIRST_WORDS: usize = 20;
@@ -13,7 +13,7 @@ pub fn next_word(w: &[u32; ROUNDS], t: usize) -> u32
     requires { (16 ≤ t) × (t < 80) }
     ensures { result ≡ spec.next_word_of w.now t }
 {
-    rotl1(w[t - 3] ^ w[t - 8] ^ w[t - 14] ^ w[t - 16])
+    (w[t - 3] ^ w[t - 8] ^ w[t - 14] ^ w[t - 16]).rotate_left(1)
 }
 
 // The first 20 words of the schedule of a block (6.1.2, step 1).
@@ -22,6 +22,7 @@ pub fn first_words(b: &[u8]) -> [u32; ROUNDS]
     ensures { take 20 result ≡ spec.schedule b.now 20 }
 {
     let mut w = [0u32; ROUNDS];
+    // an index, since it counts words here and octets of the block too
     for t in 0..WORDS {
         w[t] = word(b, WORD_OCTETS * t);
     }

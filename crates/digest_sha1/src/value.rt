@@ -3,7 +3,7 @@ ghost use Rattle.std.specs.Prelude.{◌≡◌};
 ghost use Rattle.digest_sha1.specs.Sha1 as spec;
 
 use crate::sizes::DIGEST_OCTETS;
-use crate::words::{plus, put_word};
+use crate::words::put_word;
 
 // The five words of a hash value, and the five working variables of the rounds (FIPS 180-4 6.1.2).
 #[derive(Clone, Copy)]
@@ -29,15 +29,16 @@ pub fn initial() -> Hash
 }
 
 // The hash value that ends a block: what it was plus the working variables, word by word (6.1.2, step 4).
+#[tactic(auto, unfolding(crate::specs::Sha1::added))]
 pub fn added(h: Hash, s: Hash) -> Hash
     ensures { result ≡ spec.added h s }
 {
     Hash {
-        a: plus(h.a, s.a),
-        b: plus(h.b, s.b),
-        c: plus(h.c, s.c),
-        d: plus(h.d, s.d),
-        e: plus(h.e, s.e),
+        a: h.a.wrapping_add(s.a),
+        b: h.b.wrapping_add(s.b),
+        c: h.c.wrapping_add(s.c),
+        d: h.d.wrapping_add(s.d),
+        e: h.e.wrapping_add(s.e),
     }
 }
 

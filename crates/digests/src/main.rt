@@ -3,7 +3,7 @@
 
 #![tactic(auto)]
 
-use digest_hmac::digest::{digest_holds, same20};
+use digest_hmac::digest::digest_holds;
 use digest_hmac::hmac::{hmac, hmac_part};
 use digest_sha1::compress::compress;
 use digest_sha1::message::{finish, sha1};
@@ -16,21 +16,19 @@ const LINE_OCTETS: usize = 41;
 
 // The digit of a number below 16.
 fn digit(n: u8) -> u8 {
-    if n < 10 {
-        return b'0' + n;
+    match n {
+        0..=9 => b'0' + n,
+        10..=15 => b'a' - 10 + n,
+        _ => b'?',
     }
-    if n < 16 {
-        return b'a' - 10 + n;
-    }
-    b'?'
 }
 
 // The digest in hexadecimal, and an end of line.
 fn line(d: [u8; DIGEST_OCTETS]) -> [u8; LINE_OCTETS] {
     let mut t = [b'\n'; LINE_OCTETS];
-    for i in 0..DIGEST_OCTETS {
-        t[2 * i] = digit(d[i] / 16);
-        t[2 * i + 1] = digit(d[i] % 16);
+    for (i, x) in d.iter().enumerate() {
+        t[2 * i] = digit(*x / 16);
+        t[2 * i + 1] = digit(*x % 16);
     }
     t
 }
@@ -52,10 +50,7 @@ fn say(to: &Stdout, name: &[u8], is_so: bool) {
 
 // Whether a digest is the one that was printed.
 fn is_printed(d: [u8; DIGEST_OCTETS], printed: &[u8]) -> bool {
-    if printed.len() != DIGEST_OCTETS {
-        return false;
-    }
-    same20(d, printed, 0)
+    &d[..] == printed
 }
 
 // Says whether a digest is the one that was printed, and shows it.
@@ -83,7 +78,7 @@ fn show_sha1(to: &Stdout, name: &[u8], m: &[u8], printed: &[u8]) {
 fn million() -> Hash {
     let b = [b'a'; BLOCK_OCTETS];
     let mut h = initial();
-    for i in 0..MILLION_BLOCKS {
+    for _ in 0..MILLION_BLOCKS {
         h = compress(h, &b);
     }
     let none = [0u8; 0];

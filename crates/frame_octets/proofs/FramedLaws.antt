@@ -1,36 +1,47 @@
 -- A frame's octets under a key of suite 768: what sealing hands back and writes by its answer, and that opening gives back what was sealed.
 use mathlib.Core.Path.{◌≡◌, refl, sym, ◌∙◌, ap, subst}
-use mathlib.Core.Bool.{true, false}
+use mathlib.Core.Bool.{Bool, true, false, cond}
 use mathlib.Core.List.{List, ◌++◌}
 use Prim.Native.Nat.{ℕ}
 use native.Mathlib.Omega.{arith}
 use lib.ListN.{length, take, drop}
 use lib.Seq.{take_all}
 use borrow.Author.Tests.{eqb-true}
-use Rattle.questions.specs.declared.refusal.Answer.{Answer}
-use Rattle.questions.specs.declared.refusal.Answer.TheVariants.{Done, Refused}
+use Rattle.questions.specs.Answer.{Answer, Done, Refused}
+use Rattle.questions.specs.declared.refusal.Refusal.{Refusal}
+use Rattle.questions.specs.declared.refusal.Refusal.TheVariants.{WrongLength, ShortFrame}
 use Rattle.questions.specs.Refusal.{is_done_of}
 use Rattle.questions.proofs.AnswerLaws.{is-done}
 use Rattle.key_traffic.specs.Suites.{width_of}
 use Rattle.key_traffic.specs.Octets.{overlay}
-use Rattle.key_traffic.specs.declared.frame.Opening.{Opening}
-use Rattle.key_traffic.specs.declared.frame.Opening.TheVariants.{ByNeither}
-use Rattle.key_traffic.specs.Frame.{opens}
 use Rattle.key_traffic.specs.Sealing.{KeyOut, key_out, sealed_for}
 use Rattle.key_traffic.specs.declared.traffic.TrafficKey.{TrafficKey}
 use Rattle.key_traffic.specs.declared.sealing.SealedCall.{SealedCall}
 use Rattle.cipher_cbc.specs.Cbc.{seal_aes, open_aes}
 use Rattle.cipher_cbc.proofs.CbcLaws.{seal_length, open_length}
-use Rattle.frame_octets.specs.Framed.{suite_seals_of, seal_under_of, open_under_of, sealed_frame_of, FrameSealGives}
+use Rattle.frame_octets.specs.Framed.{suite_seals_of, frame_asked_of, seal_under_of, open_under_of, sealed_frame_of, FrameSealGives}
+
+-- ---- a question that was asked, by its answer: met, or refused with its refusal
+pub asked_yes : (met : Bool) (asked : Refusal) → Done ≡ cond met Done (Refused asked) → met ≡ true
+asked_yes true asked e = refl
+asked_yes false asked e = cc
+
+pub asked_no : (met : Bool) (asked r : Refusal) → Refused r ≡ cond met Done (Refused asked) → (met ≡ false) × (r ≡ asked)
+asked_no true asked r e = cc
+asked_no false asked r e = (refl, cc)
+
+-- what is answered where a question is the first that is not met
+module _ (q1 q2 q15 q10 : Bool) (later : Answer) (limits : q1 ≡ true) where
+  pub refused_2 : q2 ≡ false → Refused WrongLength ≡ frame_asked_of q1 q2 q15 q10 later
+  refused_2 e = rw (limits, e) refl
+
+  pub refused_15 : q2 ≡ true → q15 ≡ false → Refused ShortFrame ≡ frame_asked_of q1 q2 q15 q10 later
+  refused_15 lengths e = rw (limits, lengths, e) refl
 
 -- the suite's TEK and vector have 16 octets each
 pub seals_wide : (suite : ℕ) → suite_seals_of suite ≡ true → width_of suite ≡ 16
 unfolding width_of
 seals_wide suite e = rw (eqb-true suite 768 e) refl
-
--- a decision that opens names a key
-pub none_opens : (o : Opening) → o ≡ ByNeither → opens o ≡ true → ⊥
-none_opens o e h = let z : opens ByNeither ≡ true = ap opens (sym e) ∙ h in let y : ◌≡◌ {A = ℕ} 0 1 = cc in absurd (omega arith)
 
 -- ---- the octets written, as the cipher says it and as the calls do; `tek` and `vector` have 16 octets
 module _ (tek vector frame out out₁ : List ℕ) (n : ℕ) (tek-wide : length tek ≡ 16) (vector-wide : length vector ≡ 16) (count : n ≡ length frame) where

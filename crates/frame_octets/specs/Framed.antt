@@ -1,7 +1,6 @@
 -- Frames sealed and opened in their octets (document 02, M-103): what either end asks of one, and what it gives.
 use Rattle.std.specs.Prelude.{◌≡◌, Bool, cond, List, [], ℕ, leb, eqb, length}
-use Rattle.questions.specs.declared.refusal.Answer.{Answer}
-use Rattle.questions.specs.declared.refusal.Answer.TheVariants.{Done, Refused}
+use Rattle.questions.specs.Answer.{Answer, Done, Refused}
 use Rattle.questions.specs.declared.refusal.Refusal.TheVariants.{OutOfLimits, WrongLength, ShortFrame, UnknownSaid}
 use Rattle.key_traffic.specs.Octets.{overlay}
 use Rattle.key_traffic.specs.Sealing.{KeyOut, Sealed}

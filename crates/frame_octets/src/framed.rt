@@ -7,7 +7,7 @@ ghost use Rattle.frame_octets.specs.Framed.{frame_long_of, suite_seals_of, frame
 
 use cipher_cbc::chaining::CLEAR_OCTETS;
 use cipher_cbc::frame::{open_frame, seal_frame};
-use key_traffic::frame::Opening;
+use key_traffic::frame::{Held, Opening};
 use key_traffic::suites::SUITE_AES;
 use key_traffic::traffic::TrafficKey;
 use questions::refusal::{Answer, Refusal, ask};
@@ -37,10 +37,11 @@ pub fn suite_seals(suite: u16) -> bool
 pub fn frame_answer(q1: bool, q2: bool, q15: bool, q10: bool, later: Answer) -> Answer
     ensures { result ≡ frame_asked_of q1 q2 q15 q10 later }
 {
-    let a10 = ask(q10, Refusal::UnknownSaid, later);
-    let a15 = ask(q15, Refusal::ShortFrame, a10);
-    let a2 = ask(q2, Refusal::WrongLength, a15);
-    ask(q1, Refusal::OutOfLimits, a2)
+    ask(q1, Refusal::OutOfLimits)?;
+    ask(q2, Refusal::WrongLength)?;
+    ask(q15, Refusal::ShortFrame)?;
+    ask(q10, Refusal::UnknownSaid)?;
+    later
 }
 
 // The sealed frame goes to the front of `out`; how many octets is handed back.
@@ -49,9 +50,7 @@ pub fn seal_under(k: TrafficKey, frame: &[u8], out: &mut [u8]) -> usize
     ensures { (result ≡ length (seal_under_of (key_out 16 k) frame.now))
         × (out.new ≡ overlay out.old (seal_under_of (key_out 16 k) frame.now)) }
 {
-    let tek = k.tek;
-    let vector = k.vector;
-    seal_frame(&tek, &vector, frame, out);
+    seal_frame(&k.tek, &k.vector, frame, out);
     frame.len()
 }
 
@@ -61,9 +60,7 @@ fn open_under(k: TrafficKey, frame: &[u8], out: &mut [u8]) -> usize
     ensures { (result ≡ length (open_under_of (key_out 16 k) frame.now))
         × (out.new ≡ overlay out.old (open_under_of (key_out 16 k) frame.now)) }
 {
-    let tek = k.tek;
-    let vector = k.vector;
-    open_frame(&tek, &vector, frame, out);
+    open_frame(&k.tek, &k.vector, frame, out);
     frame.len()
 }
 
@@ -80,8 +77,8 @@ pub fn open_by(
         × (out.new ≡ overlay out.old (open_under_of (opened_by_of o 16 older newer) frame.now)) }
 {
     match o {
-        Opening::ByOlder => open_under(older, frame, out),
-        Opening::ByNewer => open_under(newer, frame, out),
-        Opening::ByNeither => 0,
+        Some(Held::Older) => open_under(older, frame, out),
+        Some(Held::Newer) => open_under(newer, frame, out),
+        None => 0,
     }
 }

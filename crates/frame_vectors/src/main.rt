@@ -6,12 +6,10 @@
 
 ghost use Rattle.std.specs.Prelude.{◌<◌};
 
-use check::same;
 use cipher_aes::encryption::{add_round_key, encrypt};
-use cipher_aes::encryption_table::encryption_table;
 use cipher_aes::keys::expand;
 use cipher_aes::sizes::{BLOCK_OCTETS, ROUNDS};
-use cipher_aes::words::{State, key_at};
+use cipher_aes::words::State;
 use cipher_cbc::block::{load, store};
 use cipher_cbc::exported::{DONE, cipher_cbc_open, cipher_cbc_seal};
 use std::io::{Print, Stdout};
@@ -37,10 +35,8 @@ fn print_octet(to: &Stdout, x: u8) {
 }
 
 fn print_octets(to: &Stdout, s: &[u8]) {
-    let mut i = 0;
-    while i < s.len() {
-        print_octet(to, s[i]);
-        i += 1;
+    for x in s {
+        print_octet(to, *x);
     }
 }
 
@@ -57,12 +53,12 @@ fn show_frame(to: &Stdout, name: &[u8], key: &[u8], vector: &[u8], frame: &[u8],
     print(to, name);
     print(to, b": ");
     print_octets(to, &out[..n]);
-    if (sealed == DONE) & same(&out[..n], printed) {
+    if (sealed == DONE) & (&out[..n] == printed) {
         print(to, b" as printed");
     } else {
         print(to, b" DIFFERS");
     }
-    if (opened == DONE) & same(&back[..n], frame) {
+    if (opened == DONE) & (&back[..n] == frame) {
         print(to, b", opened\n");
     } else {
         print(to, b", NOT OPENED\n");
@@ -71,22 +67,18 @@ fn show_frame(to: &Stdout, name: &[u8], key: &[u8], vector: &[u8], frame: &[u8],
 
 // The last round key of FIPS 197, A.1.
 fn show_last_key(to: &Stdout) {
-    let e = encryption_table();
     let key = State {
         a: 0x2b7e1516,
         b: 0x28aed2a6,
         c: 0xabf71588,
         d: 0x09cf4f3c,
     };
-    let w = expand(&e, key);
+    let keys = expand(key);
     let mut out = [0u8; BLOCK_OCTETS];
-    store(&mut out, 0, key_at(&w, ROUNDS));
+    store(&mut out, 0, keys[ROUNDS]);
     print(to, b"FIPS 197 A.1: ");
     print_octets(to, &out);
-    if same(
-        &out,
-        b"\xd0\x14\xf9\xa8\xc9\xee\x25\x89\xe1\x3f\x0c\xc8\xb6\x63\x0c\xa6",
-    ) {
+    if &out == b"\xd0\x14\xf9\xa8\xc9\xee\x25\x89\xe1\x3f\x0c\xc8\xb6\x63\x0c\xa6" {
         print(to, b" as printed\n");
     } else {
         print(to, b" DIFFERS\n");
@@ -102,18 +94,17 @@ fn residual_row(
     plain: &[u8; BLOCK_OCTETS],
     printed: &[u8],
 ) {
-    let e = encryption_table();
-    let w = expand(&e, load(key, 0));
+    let keys = expand(load(key, 0));
     let mut out = [0u8; BLOCK_OCTETS];
     store(
         &mut out,
         0,
-        add_round_key(load(plain, 0), encrypt(&e, &w, load(vector, 0))),
+        add_round_key(load(plain, 0), encrypt(&keys, load(vector, 0))),
     );
     print(to, name);
     print(to, b": ");
     print_octets(to, &out);
-    if same(&out, printed) {
+    if &out[..] == printed {
         print(to, b" as printed\n");
     } else {
         print(to, b" DIFFERS\n");

@@ -14,51 +14,56 @@ use message_rules::codes::{
 };
 use message_rules::fields::{Descriptor, Fields, KeyOctets, Params, no_descriptors, no_params};
 
+// An answer of which the error is zero, and all that comes after the SAID.
+fn bare(code: u8, identifier: u8, ak: AkNumber, said: u16) -> Fields
+    ensures { result ≡ error_answer_of code identifier ak said 0 }
+{
+    Fields {
+        code,
+        identifier,
+        ak,
+        said,
+        life: 0,
+        error: 0,
+        count: 0,
+        descriptors: no_descriptors(),
+        older: no_params(),
+        newer: no_params(),
+    }
+}
+
 // An answer that carries an error, or none at all.
 pub fn error_answer(code: u8, identifier: u8, ak: AkNumber, said: u16, error: u8) -> Fields
     ensures { result ≡ error_answer_of code identifier ak said error }
 {
-    let none = no_params();
-    let ds = no_descriptors();
     Fields {
-        code: code,
-        identifier: identifier,
-        ak: ak,
-        said: said,
-        life: 0,
-        error: error,
-        count: 0,
-        descriptors: ds,
-        older: none,
-        newer: none,
+        error,
+        ..bare(code, identifier, ak, said)
     }
 }
 
 // SA type 0 for the first SAID, 1 for the others.
+#[tactic(auto, unfolding(crate::specs::AnswerFields::descriptor_at_of))]
 fn descriptor_at(l: Listing, i: usize) -> Descriptor
     requires { i < 4 }
     ensures { result ≡ descriptor_at_of l i }
 {
-    let saids = l.saids;
-    let suites = l.suites;
     if l.count <= i {
-        return Descriptor {
+        Descriptor {
             said: 0,
             kind: 0,
             suite: 0,
-        };
-    }
-    if i == 0 {
-        return Descriptor {
-            said: saids[i],
-            kind: SA_TYPE_PRIMARY,
-            suite: suites[i],
-        };
-    }
-    Descriptor {
-        said: saids[i],
-        kind: SA_TYPE_STATIC,
-        suite: suites[i],
+        }
+    } else {
+        Descriptor {
+            said: l.saids[i],
+            kind: if i == 0 {
+                SA_TYPE_PRIMARY
+            } else {
+                SA_TYPE_STATIC
+            },
+            suite: l.suites[i],
+        }
     }
 }
 
@@ -66,44 +71,36 @@ fn descriptor_at(l: Listing, i: usize) -> Descriptor
 pub fn reply_answer(clock: u64, identifier: u8, l: Listing, k: AuthKeys) -> Fields
     ensures { result ≡ reply_answer_of clock identifier l k }
 {
-    let none = no_params();
-    let d0 = descriptor_at(l, 0);
-    let d1 = descriptor_at(l, 1);
-    let d2 = descriptor_at(l, 2);
-    let d3 = descriptor_at(l, 3);
     Fields {
-        code: CODE_AUTHORIZATION_REPLY,
-        identifier: identifier,
-        ak: newest(k),
-        said: 0,
         life: difference(k.newer, clock),
-        error: 0,
         count: l.count,
-        descriptors: [d0, d1, d2, d3],
-        older: none,
-        newer: none,
+        descriptors: [
+            descriptor_at(l, 0),
+            descriptor_at(l, 1),
+            descriptor_at(l, 2),
+            descriptor_at(l, 3),
+        ],
+        ..bare(CODE_AUTHORIZATION_REPLY, identifier, newest(k), 0)
     }
 }
 
 fn params_at(clock: u64, w: usize, k: TrafficKey) -> Params
     ensures { result ≡ params_at clock w k }
 {
+    // an array goes into a literal by a variable
     let tek_octets = k.tek;
     let vector_octets = k.vector;
-    let number = k.number;
-    let tek = KeyOctets {
-        width: w,
-        octets: tek_octets,
-    };
-    let vector = KeyOctets {
-        width: w,
-        octets: vector_octets,
-    };
     Params {
-        number: number,
+        number: k.number,
         life: difference(k.deadline, clock),
-        tek: tek,
-        vector: vector,
+        tek: KeyOctets {
+            width: w,
+            octets: tek_octets,
+        },
+        vector: KeyOctets {
+            width: w,
+            octets: vector_octets,
+        },
     }
 }
 
@@ -112,22 +109,9 @@ pub fn key_reply(clock: u64, a: Assoc, f: Fields) -> Fields
     ensures { result ≡ key_reply_of clock a f }
 {
     let w = width(a.suite);
-    let first = a.older;
-    let second = a.newer;
-    let older = params_at(clock, w, first);
-    let newer = params_at(clock, w, second);
-    let ak = f.ak;
-    let ds = no_descriptors();
     Fields {
-        code: CODE_KEY_REPLY,
-        identifier: f.identifier,
-        ak: ak,
-        said: f.said,
-        life: 0,
-        error: 0,
-        count: 0,
-        descriptors: ds,
-        older: older,
-        newer: newer,
+        older: params_at(clock, w, a.older),
+        newer: params_at(clock, w, a.newer),
+        ..bare(CODE_KEY_REPLY, f.identifier, f.ak, f.said)
     }
 }

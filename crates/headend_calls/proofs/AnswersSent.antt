@@ -8,8 +8,7 @@ use native.Mathlib.Omega.{arith}
 use lib.Dec.{eqb}
 use lib.ListN.{length}
 use borrow.Author.Tests.{le-leb, ne_eqb, eqb-true}
-use Rattle.questions.specs.declared.refusal.Answer.{Answer}
-use Rattle.questions.specs.declared.refusal.Answer.TheVariants.{Done, Refused}
+use Rattle.questions.specs.Answer.{Answer, Done, Refused}
 use Rattle.key_association.specs.declared.record.Assoc.{Assoc}
 use Rattle.key_association.specs.declared.search.Found.{Found}
 use Rattle.message_rules.specs.declared.fields.Fields.{Fields}

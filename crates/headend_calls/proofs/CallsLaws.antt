@@ -1,15 +1,15 @@
 -- Laws of the calls' definitions (`specs/Calls.antt`): what the number of a call's answer tells of the records after it, and that the
 -- number 0 gives what `key_records::store` and `key_records::roll` ask.
 use mathlib.Core.Path.{◌≡◌, refl, sym}
-use mathlib.Core.Bool.{false}
+use mathlib.Core.Bool.{true, false}
 use mathlib.Core.List.{List}
 use Prim.Native.Nat.{ℕ}
 use native.Mathlib.Omega.{arith}
 use lib.Dec.{eqb}
 use lib.ListN.{length, get_or}
 use borrow.Author.Tests.{not-false}
-use Rattle.questions.specs.declared.refusal.Answer.{Answer}
-use Rattle.questions.specs.declared.refusal.Answer.TheVariants.{Done, Refused}
+use Rattle.std.specs.Result.{is_ok}
+use Rattle.questions.specs.Answer.{Answer, Done, Refused}
 use Rattle.questions.specs.Refusal.{answer_number_of}
 use Rattle.questions.proofs.AnswerLaws.{refusal_number, number_done}
 use Rattle.message_rules.proofs.HoldsLaws.{never}
@@ -27,6 +27,11 @@ use Rattle.headend_limits.proofs.ListingLaws.{listing_facts}
 use Rattle.headend_limits.proofs.LimitsLaws.{head_facts}
 use Rattle.headend_steps.proofs.AskedLaws.{ListAsked, list_asked, ClockAsked, clock_asked}
 use Rattle.headend_calls.specs.Calls.{records_for, list_of, list_records_of, clock_of, clock_records_of}
+
+-- An answer that is Ok has the number 0
+pub ok_number : (a : Answer) → is_ok a ≡ true → answer_number_of a ≡ 0
+ok_number Done e = refl
+ok_number (Refused r) e = never e
 
 -- ---- the records after a call
 module _ (changed xs : List Assoc) where

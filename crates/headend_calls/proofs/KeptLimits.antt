@@ -9,8 +9,7 @@ use lib.Dec.{eqb}
 use lib.ListN.{length, get_or, set, length-take}
 use lib.Seq.{take-set-lt}
 use borrow.Author.Tests.{le-leb}
-use Rattle.questions.specs.declared.refusal.Answer.{Answer}
-use Rattle.questions.specs.declared.refusal.Answer.TheVariants.{Done, Refused}
+use Rattle.questions.specs.Answer.{Answer, Done, Refused}
 use Rattle.questions.specs.declared.refusal.Refusal.TheVariants.{OutOfLimits}
 use Rattle.questions.specs.declared.settings.Settings.{Settings}
 use Rattle.questions.specs.Settings.{settings_fit_of}

@@ -6,8 +6,7 @@ use native.Mathlib.Omega.{arith}
 use lib.ListN.{get_or, take, drop}
 use lib.Seq.{length-take-le, take_at}
 use borrow.Author.Tests.{not-false}
-use Rattle.questions.specs.declared.refusal.Answer.{Answer}
-use Rattle.questions.specs.declared.refusal.Answer.TheVariants.{Done}
+use Rattle.questions.specs.Answer.{Answer, Done}
 use Rattle.questions.specs.Refusal.{answer_number_of}
 use Rattle.key_association.specs.declared.listing.Listing.{Listing}
 use Rattle.key_association.specs.declared.record.Assoc.{Assoc}

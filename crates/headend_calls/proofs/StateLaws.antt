@@ -6,8 +6,7 @@ use mathlib.Core.List.{List}
 use Prim.Native.Nat.{ℕ}
 use lib.Dec.{eqb}
 use lib.ListN.{length}
-use Rattle.questions.specs.declared.refusal.Answer.{Answer}
-use Rattle.questions.specs.declared.refusal.Answer.TheVariants.{Done, Refused}
+use Rattle.questions.specs.Answer.{Answer, Done, Refused}
 use Rattle.questions.specs.declared.refusal.Refusal.{Refusal}
 use Rattle.questions.specs.Refusal.{is_done_of}
 use Rattle.message_rules.specs.declared.fields.Fields.{Fields}
@@ -35,8 +34,8 @@ pub done_apart : {A : Type 0} (r : Refusal) → Refused r ≡ Done → A
 done_apart r e = never (ap is_done_of e)
 
 pub by_answer : (P : Type 0) (a : Answer) → (a ≡ Done → P) → ((r : Refusal) → a ≡ Refused r → P) → P
-by_answer P Done done refused = done refl
-by_answer P (Refused r) done refused = refused r refl
+by_answer P Done at_done refused = at_done refl
+by_answer P (Refused r) _ refused = refused r refl
 
 -- ---- list
 module _ (h : HeadEnd) (xs : List Assoc) (address allowed : ℕ) (l : Listing) (m : List ℕ) where

@@ -4,26 +4,26 @@ ghost use Rattle.std.specs.Prelude.{◌≡◌};
 ghost use Rattle.headend_calls.specs.Calls.{new_value, Lists, Clocks, Receives};
 
 use headend_limits::search::{half_in, of_request, one_of, out_of_limits};
-use headend_state::state::{Called, HeadEnd, answered, called_number, fresh};
+use headend_state::state::{Called, HeadEnd, answered, fresh};
 use headend_steps::clock::clock_called;
 use headend_steps::listing::list_called;
 use headend_steps::receive::{read_request, receive_called};
 use key_association::listing::Listing;
 use key_association::record::Assoc;
 use key_records::{first, lookup, roll, store};
-use questions::refusal::{Answer, DONE, Refusal};
+use questions::refusal::Refusal;
 use questions::settings::{Settings, no_settings, settings_fit};
 
 // A fresh head-end at clock 0; where it is refused, one that is all zero.
+#[tactic(auto, unfolding(crate::specs::Calls::new_value))]
 pub fn new(settings: Settings) -> Called
     ensures { result ≡ new_value settings }
 {
     if settings_fit(settings) {
-        let h = fresh(settings);
-        return answered(h, Answer::Done);
+        answered(fresh(settings), Ok(()))
+    } else {
+        answered(fresh(no_settings()), Err(Refusal::OutOfLimits))
     }
-    let h = fresh(no_settings());
-    answered(h, Answer::Refused(Refusal::OutOfLimits))
 }
 
 // Lists a modem: its entry goes into the state, and its records behind those in use.
@@ -37,10 +37,9 @@ pub fn list(
 ) -> Called
     ensures { Lists h records.old address allowed l material.now result records.new }
 {
-    let bad = first(&*records, out_of_limits(h));
-    let clash = first(&*records, one_of(l));
-    let half = half_in(h);
-    let c = list_called(
+    let bad = first(records, out_of_limits(h));
+    let clash = first(records, one_of(l));
+    let called = list_called(
         h,
         address,
         allowed,
@@ -50,25 +49,22 @@ pub fn list(
         records.len(),
         material.len(),
     );
-    let no = called_number(c);
-    if no == DONE {
-        store(&mut *records, h.used, l.count, half, h.clock, l, material);
+    if called.answer.is_ok() {
+        store(records, h.used, l.count, half_in(h), h.clock, l, material);
     }
-    c
+    called
 }
 
 // The clock goes to `t`: the records in use are rolled.
 pub fn clock(h: HeadEnd, records: &mut [Assoc], t: u64, material: &[u8]) -> Called
     ensures { Clocks h records.old t material.now result records.new }
 {
-    let bad = first(&*records, out_of_limits(h));
-    let half = half_in(h);
-    let c = clock_called(h, t, bad, records.len(), material.len());
-    let no = called_number(c);
-    if no == DONE {
-        roll(&mut *records, h.used, half, t, material);
+    let bad = first(records, out_of_limits(h));
+    let called = clock_called(h, t, bad, records.len(), material.len());
+    if called.answer.is_ok() {
+        roll(records, h.used, half_in(h), t, material);
     }
-    c
+    called
 }
 
 // A message from the modem of that address; the answer is written at the front of `out`. Its digest is asked under `read_key`, the answer's is that of

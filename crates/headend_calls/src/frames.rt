@@ -2,6 +2,9 @@
 // changed. All are straight lines: every decision is made by a function of `headend_frames` on values.
 ghost use Rattle.std.specs.Prelude.{◌≡◌, length};
 ghost use Rattle.key_traffic.specs.Sealing.{SealGives};
+ghost use Rattle.key_association.specs.declared.search.Probe.TheVariants.{OfSaid};
+ghost use Rattle.key_records.specs.Records.{first_of, lookup_of};
+ghost use Rattle.headend_limits.specs.Search.{out_of_limits_of};
 ghost use Rattle.headend_frames.specs.FrameCalled.{OpenGives};
 ghost use Rattle.headend_frames.specs.FrameCalls.{seal_of, open_of, seal_frame_value, open_frame_value};
 ghost use Rattle.headend_frames.specs.OctetFrames.{OpenFrameGives};
@@ -9,12 +12,24 @@ ghost use Rattle.frame_octets.specs.Framed.{FrameSealGives};
 
 use headend_frames::frames::{OpenedCall, open_called, seal_called};
 use headend_frames::octets::{open_frame_called, seal_frame_called};
+use headend_frames::rules::{Header, Searched};
 use headend_limits::search::{of_said, out_of_limits};
 use headend_state::state::HeadEnd;
 use key_association::record::Assoc;
 use key_records::{first, lookup};
 use key_traffic::numbers::TekNumber;
 use key_traffic::sealing::SealedCall;
+
+// What the calls on frames look for in the lent records.
+fn searched(h: HeadEnd, records: &[Assoc], said: u16) -> Searched
+    ensures { result ≡ record { bad = first_of (out_of_limits_of h) records.now; len = length records.now; found = lookup_of (OfSaid said) records.now } }
+{
+    Searched {
+        bad: first(records, out_of_limits(h)),
+        len: records.len(),
+        found: lookup(records, of_said(said)),
+    }
+}
 
 // A frame to the modem of that address: the octets of the SAID's older key go to the front of `tek` and `vector`.
 pub fn seal(
@@ -28,9 +43,7 @@ pub fn seal(
     ensures { SealGives (seal_of h records.now address said (length tek.old) (length vector.old))
         tek.old vector.old result tek.new vector.new }
 {
-    let bad = first(records, out_of_limits(h));
-    let s = lookup(records, of_said(said));
-    seal_called(h, bad, records.len(), s, address, said, tek, vector)
+    seal_called(h, searched(h, records, said), address, said, tek, vector)
 }
 
 // A frame of that direction and number from the modem of that address: the octets of the held key that opens it go to the front of `tek`
@@ -50,22 +63,14 @@ pub fn open(
     ensures { OpenGives (open_of h records.now direction address said number write_key.now (length tek.old) (length vector.old) (length invalid.old))
         tek.old vector.old invalid.old result tek.new vector.new invalid.new }
 {
-    let bad = first(records, out_of_limits(h));
-    let s = lookup(records, of_said(said));
-    open_called(
-        h,
-        bad,
-        records.len(),
-        s,
+    let header = Header {
         direction,
         address,
         said,
         number,
-        write_key,
-        tek,
-        vector,
-        invalid,
-    )
+    };
+    let found = searched(h, records, said);
+    open_called(h, found, header, write_key, tek, vector, invalid)
 }
 
 // The octets of a frame to the modem of that address, sealed with the SAID's older key, go to the front of `sealed`.
@@ -80,9 +85,7 @@ pub fn seal_frame(
     ensures { FrameSealGives (seal_frame_value h records.now address said octets.now (length sealed.old))
         sealed.old result sealed.new }
 {
-    let bad = first(records, out_of_limits(h));
-    let s = lookup(records, of_said(said));
-    seal_frame_called(h, bad, records.len(), s, address, said, octets, sealed)
+    seal_frame_called(h, searched(h, records, said), address, said, octets, sealed)
 }
 
 // The octets of a frame of that direction and number from the modem of that address, opened with the held key of its number, go to the front of
@@ -102,20 +105,12 @@ pub fn open_frame(
     ensures { OpenFrameGives (open_frame_value h records.now direction address said number octets.now write_key.now (length opened.old) (length invalid.old))
         opened.old invalid.old result opened.new invalid.new }
 {
-    let bad = first(records, out_of_limits(h));
-    let s = lookup(records, of_said(said));
-    open_frame_called(
-        h,
-        bad,
-        records.len(),
-        s,
+    let header = Header {
         direction,
         address,
         said,
         number,
-        octets,
-        write_key,
-        opened,
-        invalid,
-    )
+    };
+    let found = searched(h, records, said);
+    open_frame_called(h, found, header, octets, write_key, opened, invalid)
 }

@@ -1,26 +1,21 @@
--- Calls on frames: what their passed questions say, that a TEK Invalid can be written, and what each answer hands back and writes.
-use mathlib.Core.Path.{◌≡◌, refl, sym, ◌∙◌, ap, subst}
+-- Calls on frames: what their passed questions say, and that a TEK Invalid can be written.
+use mathlib.Core.Path.{◌≡◌, refl, sym, ◌∙◌, ap}
 use mathlib.Core.Bool.{Bool, true, false, cond, ◌&&◌}
 use mathlib.Core.List.{List, [], ◌∷◌}
 use Prim.Native.Nat.{ℕ, ◌+◌, ◌%◌, ◌≤◌, ◌<◌}
 use native.Mathlib.Omega.{arith}
 use lib.Dec.{leb, eqb}
 use lib.ListN.{length}
-use borrow.Author.Tests.{leb-true, le-leb, le-ltb, lt-ltb, ne_eqb, eqb-true}
+use borrow.Author.Tests.{leb-true, le-leb, le-ltb, lt-ltb, eqb-true}
 use Rattle.key_traffic.specs.declared.numbers.TekNumber.{TekNumber}
-use Rattle.key_traffic.specs.declared.traffic.TrafficKey.{TrafficKey}
-use Rattle.key_traffic.specs.declared.frame.Opening.{Opening}
-use Rattle.questions.specs.declared.refusal.Answer.{Answer}
-use Rattle.questions.specs.declared.refusal.Answer.TheVariants.{Done, Refused}
+use Rattle.questions.specs.Answer.{Answer, Done, Refused}
 use Rattle.questions.specs.declared.refusal.Refusal.TheVariants.{OutOfLimits, WrongLength, UnknownSaid, NoKeyForFrame}
 use Rattle.key_traffic.specs.Numbers.{tek_in_range_of}
-use Rattle.key_traffic.specs.Octets.{all_zero, zero_past_of, overlay}
-use Rattle.key_traffic.specs.Suites.{width_of}
+use Rattle.key_traffic.specs.Octets.{all_zero, zero_past_of}
 use Rattle.questions.specs.Questions.{Question}
-use Rattle.questions.specs.Refusal.{number_of, answer_number_of, is_done_of}
+use Rattle.questions.specs.Refusal.{answer_number_of}
 use Rattle.key_traffic.specs.Frame.{opens}
-use Rattle.key_traffic.specs.Sealing.{KeyOut, key_out, Sealed, sealed_for, opened_by_of, seal_called_of}
-use Rattle.questions.proofs.AnswerLaws.{done_met, is-done, number_done}
+use Rattle.questions.proofs.AnswerLaws.{done_met}
 use Rattle.questions.proofs.TestLaws.{both}
 use Rattle.key_association.specs.declared.search.Found.{Found}
 use Rattle.key_traffic.specs.Addresses.{said_fits_of, address_fits_of}
@@ -33,15 +28,13 @@ use Rattle.message_digest.specs.Digest.{message_key_fits_of}
 use Rattle.message_digest.proofs.SignedLaws.{signed_length}
 use Rattle.headend_state.specs.declared.state.HeadEnd.{HeadEnd}
 use Rattle.headend_state.specs.declared.entries.Known.{Known}
-use Rattle.key_traffic.specs.declared.sealing.SealedCall.{SealedCall}
-use Rattle.headend_frames.specs.declared.frames.OpenedCall.{OpenedCall}
 use Rattle.headend_state.specs.Entries.{known_of}
 use Rattle.headend_limits.specs.Limits.{head_fits_of as stateFits}
 use Rattle.headend_limits.specs.Search.{records_fit_of}
 use Rattle.headend_steps.specs.Receive.{answer_octets, Writable}
-use Rattle.headend_frames.specs.FrameQuestions.{is_own_of, held_suits_of, frame_fits_of, seal_answer_of, opening_in, open_answer_of, counted_by_of}
-use Rattle.headend_frames.specs.Frames.{invalid_fields, invalid_octets, HeadOpened, opened_for}
-use Rattle.headend_frames.specs.FrameCalled.{open_called_of, Openable}
+use Rattle.headend_frames.specs.FrameQuestions.{is_own_of, held_suits_of, frame_fits_of, seal_answer_of, opening_in, open_answer_of}
+use Rattle.headend_frames.specs.Frames.{invalid_fields, invalid_octets}
+use Rattle.headend_frames.specs.FrameCalled.{Openable}
 
 -- ---- what the passed questions say
 module _ (h : HeadEnd) (bad len : ℕ) (s : Found) (address said : ℕ) where
@@ -136,81 +129,3 @@ module _ (h : HeadEnd) (k known : Known) (same : k ≡ known) (said : ℕ) (writ
 
   pub one_invalid : h.clock < k.entry.keys.newer → (f : Fields) → f ≡ invalid_fields k said → answer_octets f [] write ≡ invalid_octets h known said write
   one_invalid on f is = ap (λ (x : Fields). answer_octets x [] write) is ∙ all_octets h k said write on ∙ ap (λ (x : Known). invalid_octets h x said write) same
-
--- ---- sealing: what is handed back and written, by the answer
-abbrev SealSays : Sealed → SealedCall → List ℕ → List ℕ → List ℕ → List ℕ → Type 0
-SealSays g c tek vector tek' vector' = (c ≡ seal_called_of g) × (tek' ≡ overlay tek g.out.tek) × (vector' ≡ overlay vector g.out.vector)
-
-module _ (w : ℕ) (k : TrafficKey) (tek vector : List ℕ) where
-  abbrev no_key : Answer → SealedCall
-  no_key a = record { answer = a; number = record { 0 = 0 }; width = 0 }
-
-  seal_no : (a : Answer) → is_done_of a ≡ false → SealSays (sealed_for a w k) (no_key a) tek vector tek vector
-  seal_no Done e = let z : ◌≡◌ {A = ℕ} 0 1 = cc in absurd (omega arith)
-  seal_no (Refused r) e = (refl, refl, refl)
-
-  pub seal_refused : (a q : Answer) → a ≡ q → is_done_of a ≡ false → SealSays (sealed_for q w k) (no_key a) tek vector tek vector
-  seal_refused a q same e = subst (λ (y : Answer). SealSays (sealed_for y w k) (no_key a) tek vector tek vector) same (seal_no a e)
-
-  -- `v` and `n` are the width and the octets written as the code has them
-  module _ (v n : ℕ) (wide : v ≡ w) (tek' vector' : List ℕ) (tek-put : tek' ≡ overlay tek (key_out v k).tek)
-      (vector-put : vector' ≡ overlay vector (key_out v k).vector) (count : n ≡ length (key_out v k).tek) where
-    abbrev by_key : Answer → SealedCall
-    by_key a = record { answer = a; number = k.number; width = n }
-
-    seal_yes : (a : Answer) → a ≡ Done → SealSays (sealed_for a w k) (by_key a) tek vector tek' vector'
-    seal_yes a e = rw (e, sym wide) (ap (λ (m : ℕ). record { answer = Done; number = k.number; width = m }) count, tek-put, vector-put)
-
-    pub seal_done : (a q : Answer) → a ≡ q → is_done_of a ≡ true → SealSays (sealed_for q w k) (by_key a) tek vector tek' vector'
-    seal_done a q same e = subst (λ (y : Answer). SealSays (sealed_for y w k) (by_key a) tek vector tek' vector') same (seal_yes a (is-done a e))
-
--- ---- opening: what is handed back and written, by the answer's number
-abbrev OpenSays : HeadOpened → OpenedCall → List ℕ → List ℕ → List ℕ → List ℕ → List ℕ → List ℕ → Type 0
-OpenSays g c tek vector invalid tek' vector' invalid' =
-    (c ≡ open_called_of g) × (tek' ≡ overlay tek g.out.tek) × (vector' ≡ overlay vector g.out.vector) × (invalid' ≡ overlay invalid g.invalid)
-
-module _ (h : HeadEnd) (s : Found) (address said : ℕ) (number : TekNumber) (write tek vector invalid : List ℕ) where
-  abbrev given : Answer → HeadOpened
-  given a = opened_for a h s address said number write
-
-  abbrev call-of : Answer → HeadEnd → ℕ → ℕ → OpenedCall
-  call-of a next w n = record { answer = a; state = next; width = w; count = n }
-
-  abbrev sent : List ℕ
-  sent = invalid_octets h (known_of h address) said write
-
-  abbrev octets-of : Opening → ℕ → KeyOut
-  octets-of o w = opened_by_of o w s.held.older s.held.newer
-
-  pub open_as : (a q : Answer) → a ≡ q → (c : OpenedCall) (tek' vector' invalid' : List ℕ) → OpenSays (given a) c tek vector invalid tek' vector' invalid'
-      → OpenSays (given q) c tek vector invalid tek' vector' invalid'
-  open_as a q same c tek' vector' invalid' = subst (λ (y : Answer). OpenSays (given y) c tek vector invalid tek' vector' invalid') same
-
-  -- `no` is the answer's number, `next` the head-end, `c` what is handed back
-  module _ (a : Answer) (no : ℕ) (is-no : no ≡ answer_number_of a) (next : HeadEnd) (is-next : next ≡ counted_by_of no h) (c : OpenedCall) where
-    counted_is : next ≡ counted_by_of (answer_number_of a) h
-    counted_is = is-next ∙ ap (λ (n : ℕ). counted_by_of n h) is-no
-
-    pub open_invalid : no ≡ 13 → (n : ℕ) (invalid' : List ℕ) → (n ≡ length sent) × (invalid' ≡ overlay invalid sent) → c ≡ call-of a next 0 n
-        → OpenSays (given a) c tek vector invalid tek vector invalid'
-    open_invalid e n invalid' put is_c = rw (is_c, counted_is, put.0) (go a (sym is-no ∙ e))
-      where
-        go : (b : Answer) → answer_number_of b ≡ 13
-            → OpenSays (given b) (call-of b (counted_by_of (answer_number_of b) h) 0 (length sent)) tek vector invalid tek vector invalid'
-        go Done q = absurd (omega arith)
-        go (Refused r) q = rw q (refl, refl, refl, put.1)
-
-    pub open_refused : (no ≡ 13 → ⊥) → (no ≡ 0 → ⊥) → c ≡ call-of a next 0 0 → OpenSays (given a) c tek vector invalid tek vector invalid
-    open_refused e f is_c = rw (is_c, counted_is) (go a (λ q. e (is-no ∙ q)) (λ q. f (is-no ∙ q)))
-      where
-        go : (b : Answer) → (answer_number_of b ≡ 13 → ⊥) → (answer_number_of b ≡ 0 → ⊥)
-            → OpenSays (given b) (call-of b (counted_by_of (answer_number_of b) h) 0 0) tek vector invalid tek vector invalid
-        go Done q z = absurd (z refl)
-        go (Refused r) q z = rw (ne_eqb (number_of r) 13 q) (refl, refl, refl, refl)
-
-    -- `o` and `v` are the opening and the width as the code has them
-    pub open_done : no ≡ 0 → (o : Opening) → o ≡ opening_in h s number → (v : ℕ) → v ≡ width_of s.held.suite → (n : ℕ) (tek' vector' : List ℕ)
-        → (n ≡ length (octets-of o v).tek) × (tek' ≡ overlay tek (octets-of o v).tek) × (vector' ≡ overlay vector (octets-of o v).vector)
-        → c ≡ call-of a next n 0 → OpenSays (given a) c tek vector invalid tek' vector' invalid
-    open_done e o is-o v is-v n tek' vector' put is_c =
-        rw (is_c, counted_is, put.0, number_done a (sym is-no ∙ e), sym is-o, sym is-v) (refl, put.1, put.2, refl)

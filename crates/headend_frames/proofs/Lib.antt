@@ -1,3 +1,2 @@
-pub mod AskedLaws
 pub mod FrameCallLaws
 pub mod OctetLaws

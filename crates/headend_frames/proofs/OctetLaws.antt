@@ -1,25 +1,20 @@
--- Frames sealed and opened in their octets at the head-end: what the passed questions say, that the key is the one that the calls which give keys give, and
--- what each answer hands back and writes.
-use mathlib.Core.Path.{◌≡◌, refl, sym, ◌∙◌, ap, subst}
+-- Frames sealed and opened in their octets at the head-end: what the passed questions say, and that the call which gives keys is done where the one on octets is.
+use mathlib.Core.Path.{◌≡◌, refl, sym, ◌∙◌, ap}
 use mathlib.Core.Bool.{Bool, true, false, cond, ◌&&◌}
 use mathlib.Core.List.{List, [], ◌∷◌}
 use Prim.Native.Nat.{ℕ, ◌≤◌}
 use native.Mathlib.Omega.{arith}
 use lib.Dec.{leb, eqb}
 use lib.ListN.{length}
-use borrow.Author.Tests.{leb-true, ne_eqb, eqb-true}
+use borrow.Author.Tests.{leb-true, eqb-true}
 use Rattle.key_traffic.specs.declared.numbers.TekNumber.{TekNumber}
-use Rattle.key_traffic.specs.declared.frame.Opening.{Opening}
-use Rattle.questions.specs.declared.refusal.Answer.{Answer}
-use Rattle.questions.specs.declared.refusal.Answer.TheVariants.{Done, Refused}
+use Rattle.questions.specs.Answer.{Answer, Done, Refused}
 use Rattle.questions.specs.declared.refusal.Refusal.TheVariants.{OutOfLimits, WrongLength, UnknownSaid, NoKeyForFrame, ShortFrame}
 use Rattle.key_traffic.specs.Numbers.{tek_in_range_of}
-use Rattle.key_traffic.specs.Octets.{overlay}
 use Rattle.key_traffic.specs.Suites.{width_of}
 use Rattle.questions.specs.Questions.{Question}
-use Rattle.questions.specs.Refusal.{number_of, answer_number_of}
+use Rattle.questions.specs.Refusal.{answer_number_of}
 use Rattle.key_traffic.specs.Frame.{opens}
-use Rattle.key_traffic.specs.Sealing.{opened_by_of}
 use Rattle.frame_octets.specs.Framed.{suite_seals_of, open_under_of}
 use Rattle.frame_octets.proofs.FramedLaws.{seals_wide}
 use Rattle.questions.proofs.AnswerLaws.{done_met, number_done}
@@ -28,10 +23,13 @@ use Rattle.key_association.specs.declared.search.Found.{Found}
 use Rattle.message_digest.specs.Digest.{message_key_fits_of}
 use Rattle.headend_state.specs.declared.state.HeadEnd.{HeadEnd}
 use Rattle.headend_state.specs.Entries.{known_of}
-use Rattle.headend_frames.specs.declared.frames.OpenedCall.{OpenedCall}
 use Rattle.headend_frames.specs.FrameQuestions.{is_own_of, frame_fits_of, seal_answer_of, opening_in, counted_by_of}
-use Rattle.headend_frames.specs.Frames.{invalid_octets, opened_for}
-use Rattle.headend_frames.specs.OctetFrames.{seal_frame_answer_of, open_frame_answer_of, HeadOpenedFrame, opened_frame_of, FrameOpenable, OpenFrameGives}
+use Rattle.headend_frames.specs.OctetFrames.{seal_frame_answer_of, open_frame_answer_of, FrameOpenable, opened_frame_of, OpenFrameGives}
+use Rattle.key_traffic.specs.Opening.{Opening}
+use Rattle.key_traffic.specs.Octets.{overlay}
+use Rattle.key_traffic.specs.Sealing.{opened_by_of}
+use Rattle.headend_frames.specs.declared.frames.OpenedCall.{OpenedCall}
+use Rattle.headend_frames.specs.Frames.{opened_for}
 use Rattle.headend_frames.proofs.FrameCallLaws.{said_small}
 
 -- ---- what the passed questions say
@@ -120,47 +118,12 @@ module _ (h : HeadEnd) (bad len : ℕ) (s : Found) (address said : ℕ) where
           invalid_fits = λ q. invalid_room (answer_number_of a) (ap answer_number_of e) q;
         }
 
--- ---- opening: what is handed back and written, by the answer's number
+-- ---- opening where nothing is refused; `o` is the opening, `n` the count and `next` the head-end as the code has them
 module _ (h : HeadEnd) (s : Found) (address said : ℕ) (number : TekNumber) (frame write opened invalid : List ℕ) where
-  abbrev given : Answer → HeadOpenedFrame
-  given a = opened_frame_of (opened_for a h s address said number write) frame
-
-  abbrev call-of : Answer → HeadEnd → ℕ → ℕ → OpenedCall
-  call-of a next w n = record { answer = a; state = next; width = w; count = n }
-
-  abbrev sent : List ℕ
-  sent = invalid_octets h (known_of h address) said write
-
-  pub open_frame_as : (a q : Answer) → a ≡ q → (c : OpenedCall) (opened' invalid' : List ℕ) → OpenFrameGives (given a) opened invalid c opened' invalid'
-      → OpenFrameGives (given q) opened invalid c opened' invalid'
-  open_frame_as a q same c opened' invalid' = subst (λ (y : Answer). OpenFrameGives (given y) opened invalid c opened' invalid') same
-
-  -- `no` is the answer's number, `next` the head-end, `c` what is handed back
-  module _ (a : Answer) (no : ℕ) (is-no : no ≡ answer_number_of a) (next : HeadEnd) (is-next : next ≡ counted_by_of no h) (c : OpenedCall) where
-    counted_is : next ≡ counted_by_of (answer_number_of a) h
-    counted_is = is-next ∙ ap (λ (n : ℕ). counted_by_of n h) is-no
-
-    pub open_frame_invalid : no ≡ 13 → (n : ℕ) (invalid' : List ℕ) → (n ≡ length sent) × (invalid' ≡ overlay invalid sent) → c ≡ call-of a next 0 n
-        → OpenFrameGives (given a) opened invalid c opened invalid'
-    open_frame_invalid e n invalid' put is_c = rw (is_c, counted_is, put.0) (go a (sym is-no ∙ e))
-      where
-        go : (b : Answer) → answer_number_of b ≡ 13
-            → OpenFrameGives (given b) opened invalid (call-of b (counted_by_of (answer_number_of b) h) 0 (length sent)) opened invalid'
-        go Done q = absurd (omega arith)
-        go (Refused r) q = rw q (refl, refl, put.1)
-
-    pub open_frame_refused : (no ≡ 13 → ⊥) → (no ≡ 0 → ⊥) → c ≡ call-of a next 0 0 → OpenFrameGives (given a) opened invalid c opened invalid
-    open_frame_refused e f is_c = rw (is_c, counted_is) (go a (λ q. e (is-no ∙ q)) (λ q. f (is-no ∙ q)))
-      where
-        go : (b : Answer) → (answer_number_of b ≡ 13 → ⊥) → (answer_number_of b ≡ 0 → ⊥)
-            → OpenFrameGives (given b) opened invalid (call-of b (counted_by_of (answer_number_of b) h) 0 0) opened invalid
-        go Done q z = absurd (z refl)
-        go (Refused r) q z = rw (ne_eqb (number_of r) 13 q) (refl, refl, refl)
-
-    -- `o` is the opening as the code has it
-    pub open_frame_done : no ≡ 0 → width_of s.held.suite ≡ 16 → (o : Opening) → o ≡ opening_in h s number → (n : ℕ) (opened' : List ℕ)
-        → (n ≡ length (open_under_of (opened_by_of o 16 s.held.older s.held.newer) frame))
-        × (opened' ≡ overlay opened (open_under_of (opened_by_of o 16 s.held.older s.held.newer) frame))
-        → c ≡ call-of a next n 0 → OpenFrameGives (given a) opened invalid c opened' invalid
-    open_frame_done e wide o is-o n opened' put is_c =
-        rw (is_c, counted_is, put.0, number_done a (sym is-no ∙ e), sym is-o, wide) (refl, put.1, refl)
+  pub open_frame_done : (q : Answer) → q ≡ Done → width_of s.held.suite ≡ 16 → (o : Opening) → o ≡ opening_in h s number → (n : ℕ) (opened' : List ℕ)
+      → (n ≡ length (open_under_of (opened_by_of o 16 s.held.older s.held.newer) frame))
+      × (opened' ≡ overlay opened (open_under_of (opened_by_of o 16 s.held.older s.held.newer) frame))
+      → (next : HeadEnd) → next ≡ counted_by_of 0 h → (c : OpenedCall) → c ≡ record { answer = Done; state = next; width = n; count = 0 }
+      → OpenFrameGives (opened_frame_of (opened_for q h s address said number write) frame) opened invalid c opened' invalid
+  open_frame_done q done wide o is-o n opened' put next is-next c is_c =
+      rw (is_c, is-next, put.0, done, sym is-o, wide) (refl, put.1, refl)

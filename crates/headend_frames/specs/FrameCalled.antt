@@ -1,7 +1,7 @@
 -- What opening at the head-end hands back of what it gives: the octets themselves are in the lent slices, their counts here.
 use Rattle.std.specs.Prelude.{List, ◌≡◌, ℕ, ◌≤◌, length}
 use Rattle.key_traffic.specs.Octets.{overlay}
-use Rattle.questions.specs.declared.refusal.Answer.{Answer}
+use Rattle.questions.specs.Answer.{Answer}
 use Rattle.questions.specs.Refusal.{answer_number_of}
 use Rattle.headend_frames.specs.declared.frames.OpenedCall.{OpenedCall}
 use Rattle.headend_frames.specs.Frames.{HeadOpened}

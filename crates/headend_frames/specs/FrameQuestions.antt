@@ -1,11 +1,11 @@
 -- The questions of frames at the head-end: 1, 2, 10 and 13, and the counts (document 01, "Traffic keys at the head-end").
 use Rattle.std.specs.Prelude.{Bool, ◌&&◌, ◌||◌, not, [], ◌∷◌, ℕ, leb, eqb}
 use Rattle.key_traffic.specs.declared.numbers.TekNumber.{TekNumber}
-use Rattle.questions.specs.declared.refusal.Answer.{Answer}
+use Rattle.questions.specs.Answer.{Answer}
 use Rattle.questions.specs.declared.refusal.Refusal.TheVariants.{OutOfLimits, WrongLength, UnknownSaid, NoKeyForFrame}
 use Rattle.key_traffic.specs.Numbers.{tek_in_range_of}
 use Rattle.questions.specs.Questions.{first_no}
-use Rattle.key_traffic.specs.declared.frame.Opening.{Opening}
+use Rattle.key_traffic.specs.Opening.{Opening}
 use Rattle.key_traffic.specs.Frame.{opening_of, opens}
 use Rattle.key_traffic.specs.Sealing.{one_more_of, counted_as}
 use Rattle.key_association.specs.declared.search.Found.{Found}

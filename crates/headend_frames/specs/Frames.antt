@@ -1,10 +1,10 @@
 -- What sealing and opening a frame give at the head-end (document 01, "Traffic keys at the head-end").
 use Rattle.std.specs.Prelude.{cond, List, [], ℕ, ltb, eqb}
 use Rattle.key_traffic.specs.declared.numbers.TekNumber.{TekNumber}
-use Rattle.questions.specs.declared.refusal.Answer.{Answer}
-use Rattle.questions.specs.declared.refusal.Answer.TheVariants.{Done, Refused}
+use Rattle.questions.specs.Answer.{Answer, Done, Refused}
 use Rattle.key_traffic.specs.Suites.{width_of}
-use Rattle.questions.specs.Refusal.{answer_number_of}
+use Rattle.questions.specs.declared.refusal.Refusal.{Refusal}
+use Rattle.questions.specs.Refusal.{number_of, answer_number_of}
 use Rattle.key_traffic.specs.Sealing.{KeyOut, no_out_of, Sealed, sealed_for, opened_by_of}
 use Rattle.key_association.specs.declared.search.Found.{Found}
 use Rattle.message_rules.specs.declared.fields.Fields.{Fields}
@@ -28,6 +28,10 @@ invalid_fields k said = error_answer_of 11 0 (newest_number k.entry.keys) said 4
 
 unfoldable pub invalid_octets : HeadEnd → Known → ℕ → List ℕ → List ℕ
 invalid_octets h k said write = cond (ltb h.clock k.entry.keys.newer) (signed_of (invalid_fields k said) [] write) []
+
+-- What a refused opening sends: the TEK Invalid where the refusal is 13
+abbrev pub sent_on : Refusal → HeadEnd → ℕ → ℕ → List ℕ → List ℕ
+sent_on r h address said write = cond (eqb (number_of r) 13) (invalid_octets h (known_of h address) said write) []
 
 -- What opening gives: the answer, the head-end after it, the key's octets, and the TEK Invalid's
 pub record HeadOpened : Type 0 where

@@ -1,5 +1,6 @@
 // The questions of sealing and of opening at the head-end, and the counts of frames.
-ghost use Rattle.std.specs.Prelude.{◌≡◌, [], ◌∷◌};
+ghost use Rattle.std.specs.Prelude.{◌≡◌, [], ◌∷◌, ◌&&◌, eqb};
+ghost use Rattle.key_traffic.specs.Numbers.{tek_in_range_of};
 ghost use Rattle.questions.specs.declared.refusal.Refusal.TheVariants.{NoKeyForFrame};
 ghost use Rattle.questions.specs.Questions.{first_no};
 ghost use Rattle.key_traffic.specs.Frame.{opening_of, opens};
@@ -19,27 +20,43 @@ use key_traffic::traffic::TrafficKey;
 use message_rules::codes::INVALID_OCTETS;
 use questions::refusal::{Answer, DONE, NO_KEY_FOR_FRAME, Refusal, UNKNOWN_SAID, ask};
 
+// What the searches over the lent records found: the place of the first record out of its limits, how many records are lent, and what was found
+// for the SAID.
+#[derive(Clone, Copy)]
+pub struct Searched {
+    pub bad: usize,
+    pub len: usize,
+    pub found: Found,
+}
+
+// A frame to be opened: its direction, the address of its modem, its SAID and the number of its key.
+#[derive(Clone, Copy)]
+pub struct Header {
+    pub direction: u8,
+    pub address: u64,
+    pub said: u16,
+    pub number: TekNumber,
+}
+
 // Question 10: the SAID is this modem's.
 pub fn is_own(k: Known, said: u16) -> bool
     ensures { result ≡ is_own_of k said }
 {
-    let e = k.entry;
-    let l = e.listing;
-    k.is_listed & is_listing(l, said)
+    k.is_listed & is_listing(k.entry.listing, said)
 }
 
 // Question 13, of the decision on the two keys that are held.
 pub fn held_answer(older: TrafficKey, newer: TrafficKey, number: TekNumber, clock: u64) -> Answer
     ensures { result ≡ first_no (record { refusal = NoKeyForFrame; met = opens (opening_of clock number older newer) } ∷ []) }
 {
-    let by = decide(older, newer, number, clock);
-    if opening_number(by) != DONE {
-        return Answer::Refused(Refusal::NoKeyForFrame);
-    }
-    Answer::Done
+    ask(
+        opening_number(decide(older, newer, number, clock)) == DONE,
+        Refusal::NoKeyForFrame,
+    )
 }
 
 // Question 1 of the record that a frame's key is taken from.
+#[tactic(auto, unfolding(crate::specs::FrameQuestions::held_suits_of))]
 fn held_suits(h: HeadEnd, len: usize, s: Found, k: Known, said: u16) -> bool
     ensures { result ≡ held_suits_of h len s k said }
 {
@@ -47,84 +64,84 @@ fn held_suits(h: HeadEnd, len: usize, s: Found, k: Known, said: u16) -> bool
 }
 
 // Question 1 of a frame's address and SAID.
-pub fn frame_fits(h: HeadEnd, bad: usize, len: usize, s: Found, address: u64, said: u16) -> bool
-    ensures { result ≡ frame_fits_of h bad len s address said }
+#[tactic(auto, unfolding(crate::specs::FrameQuestions::frame_fits_of))]
+pub fn frame_fits(h: HeadEnd, r: Searched, address: u64, said: u16) -> bool
+    ensures { result ≡ frame_fits_of h r.bad r.len r.found address said }
 {
-    let k = entry_of(h, address);
     head_fits(h)
-        & records_fit(h, bad, len)
+        & records_fit(h, r.bad, r.len)
         & address_fits(address)
         & said_fits(said)
-        & held_suits(h, len, s, k, said)
+        & held_suits(h, r.len, r.found, entry_of(h, address), said)
 }
 
-// All questions of sealing. `bad` is the place of the first record out of its limits, `len` the number of records lent, `s` what was
-// found for the SAID, and the last two are the lengths of the slices for TEK and vector.
+// All questions of sealing; the last two are the lengths of the slices for TEK and vector.
+#[tactic(auto, unfolding(crate::specs::FrameQuestions::seal_answer_of))]
 pub fn seal_answer(
     h: HeadEnd,
-    bad: usize,
-    len: usize,
-    s: Found,
+    r: Searched,
     address: u64,
     said: u16,
     tek: usize,
     vector: usize,
 ) -> Answer
-    ensures { result ≡ seal_answer_of h bad len s address said tek vector }
+    ensures { result ≡ seal_answer_of h r.bad r.len r.found address said tek vector }
 {
-    let k = entry_of(h, address);
-    let q1 = frame_fits(h, bad, len, s, address, said);
-    let q2 = (h.used <= len) & (KEY_OCTETS <= tek) & (KEY_OCTETS <= vector);
-    let a10 = ask(is_own(k, said), Refusal::UnknownSaid, Answer::Done);
-    let a2 = ask(q2, Refusal::WrongLength, a10);
-    ask(q1, Refusal::OutOfLimits, a2)
+    ask(frame_fits(h, r, address, said), Refusal::OutOfLimits)?;
+    ask(
+        (h.used <= r.len) & (KEY_OCTETS <= tek) & (KEY_OCTETS <= vector),
+        Refusal::WrongLength,
+    )?;
+    ask(is_own(entry_of(h, address), said), Refusal::UnknownSaid)
+}
+
+// Question 1 of a frame to be opened.
+pub fn header_fits(h: HeadEnd, r: Searched, f: Header) -> bool
+    ensures { result ≡ frame_fits_of h r.bad r.len r.found f.address f.said && eqb f.direction 0 && tek_in_range_of f.number }
+{
+    frame_fits(h, r, f.address, f.said) & (f.direction == UP) & tek_in_range(f.number)
 }
 
 // All questions of opening; `keys` says whether the message key has its length, and the last length is that of the slice for a TEK Invalid.
+#[tactic(auto, unfolding(crate::specs::FrameQuestions::open_answer_of))]
 pub fn open_answer(
     h: HeadEnd,
-    bad: usize,
-    len: usize,
-    s: Found,
-    direction: u8,
-    address: u64,
-    said: u16,
-    number: TekNumber,
+    r: Searched,
+    f: Header,
     keys: bool,
     tek: usize,
     vector: usize,
     lent: usize,
 ) -> Answer
-    ensures { result ≡ open_answer_of h bad len s direction address said number keys tek vector lent }
+    ensures { result ≡ open_answer_of h r.bad r.len r.found f.direction f.address f.said f.number keys tek vector lent }
 {
-    let record = s.held;
-    let older = record.older;
-    let newer = record.newer;
-    let k = entry_of(h, address);
-    let q1 = frame_fits(h, bad, len, s, address, said) & (direction == UP) & tek_in_range(number);
-    let q2 = keys
-        & (h.used <= len)
-        & (KEY_OCTETS <= tek)
-        & (KEY_OCTETS <= vector)
-        & (INVALID_OCTETS <= lent);
-    let a13 = held_answer(older, newer, number, h.clock);
-    let a10 = ask(is_own(k, said), Refusal::UnknownSaid, a13);
-    let a2 = ask(q2, Refusal::WrongLength, a10);
-    ask(q1, Refusal::OutOfLimits, a2)
+    ask(header_fits(h, r, f), Refusal::OutOfLimits)?;
+    ask(
+        keys & (h.used <= r.len)
+            & (KEY_OCTETS <= tek)
+            & (KEY_OCTETS <= vector)
+            & (INVALID_OCTETS <= lent),
+        Refusal::WrongLength,
+    )?;
+    ask(is_own(entry_of(h, f.address), f.said), Refusal::UnknownSaid)?;
+    held_answer(r.found.held.older, r.found.held.newer, f.number, h.clock)
 }
 
-// The head-end after an opening that is answered with `no`: a frame taken, or refused with 10 or 13, is counted.
+// The head-end after an opening that is answered with `no`: a frame taken, or refused with 10 or 13, is counted. A number and no Answer:
+// `counted_by_of` says it of every number.
+#[tactic(auto, unfolding(crate::specs::FrameQuestions::counted_by_of))]
 pub fn counted(no: u8, h: HeadEnd) -> HeadEnd
     ensures { result ≡ counted_by_of no h }
 {
-    let mut next = h;
-    if no == DONE {
-        next.taken = one_more(h.taken);
-        return next;
+    match no {
+        DONE => HeadEnd {
+            taken: one_more(h.taken),
+            ..h
+        },
+        UNKNOWN_SAID | NO_KEY_FOR_FRAME => HeadEnd {
+            refused: one_more(h.refused),
+            ..h
+        },
+        _ => h,
     }
-    if (no == UNKNOWN_SAID) | (no == NO_KEY_FOR_FRAME) {
-        next.refused = one_more(h.refused);
-        return next;
-    }
-    h
 }

@@ -2,7 +2,7 @@
 use mathlib.Core.Path.{◌≡◌, refl, sym, ◌∙◌}
 use mathlib.Core.Bool.{Bool, true, false, ◌&&◌, ◌||◌}
 use mathlib.Core.Logic.{◌⊎◌, inl, inr}
-use Prim.Native.Nat.{ℕ, zero, suc, ◌≤◌, ◌<◌}
+use Prim.Native.Nat.{ℕ, ◌≤◌, ◌<◌}
 use native.Mathlib.Omega.{arith}
 use lib.Dec.{leb, ltb, eqb}
 use borrow.Author.Tests.{leb-true, ltb-true, lt-ltb, eqb-true, eq-eqb, lt-leb, not-true}
@@ -12,6 +12,7 @@ use Rattle.message_rules.proofs.HoldsLaws.{never}
 use Rattle.key_association.specs.declared.listing.Listing.{Listing}
 use Rattle.key_association.specs.Listing.{names_of}
 use Rattle.headend_state.specs.Entries.{said_at, suite_at, lists}
+use Rattle.headend_state.proofs.PlaceLaws.{by_four}
 use Rattle.headend_limits.specs.Limits.{place_fits_of, listing_fits_of, new_at, saids_differ_of}
 
 pub neither : (a b : Bool) → a || b ≡ false → (a ≡ false) × (b ≡ false)
@@ -25,13 +26,6 @@ pub record ListingIn (l : Listing) : Type 0 where
   pub said : (i : ℕ) → i < l.count → said_at l i ≤ 16383
   pub suite : (i : ℕ) → i < l.count → suite_known_of (suite_at l i) ≡ true
   pub differ : (i j : ℕ) → i < j → j < l.count → said_at l i ≡ said_at l j → ⊥
-
-pub by_four : (P : ℕ → Type 0) → P 0 → P 1 → P 2 → P 3 → (i : ℕ) → i < 4 → P i
-by_four P p₀ p₁ p₂ p₃ zero h = p₀
-by_four P p₀ p₁ p₂ p₃ (suc zero) h = p₁
-by_four P p₀ p₁ p₂ p₃ (suc (suc zero)) h = p₂
-by_four P p₀ p₁ p₂ p₃ (suc (suc (suc zero))) h = p₃
-by_four P p₀ p₁ p₂ p₃ (suc (suc (suc (suc i)))) h = absurd (omega arith)
 
 module _ (l : Listing) where
   place_in : (i : ℕ) → place_fits_of l i ≡ true → i < l.count → (said_at l i ≤ 16383) × (suite_known_of (suite_at l i) ≡ true)

@@ -9,7 +9,7 @@ use Rattle.key_association.specs.Record.{record_fits_of}
 use Rattle.message_rules.specs.declared.fields.Reading.{Reading}
 use Rattle.headend_state.specs.declared.state.HeadEnd.{HeadEnd}
 use Rattle.headend_state.specs.declared.entries.Known.{Known}
-use Rattle.headend_state.specs.Entries.{said_at, lists_suite}
+use Rattle.headend_state.specs.Entries.{lists_suite}
 
 -- H, by the head-end's settings
 abbrev pub half_in_of : HeadEnd → ℕ
@@ -21,7 +21,7 @@ out_of_limits_of h = OutOfLimits (half_in_of h) h.clock
 
 -- A record of one of a listing's SAIDs
 abbrev pub one_of : Listing → Probe
-one_of l = OfOneOf l.count (said_at l 0) (said_at l 1) (said_at l 2) (said_at l 3)
+one_of l = OfOneOf l
 
 -- No record that is in use and lent is out of its limits; `bad` is the place of the first lent record that is, or `len`, the number lent. That
 -- all records in use are lent is question 2

@@ -1,7 +1,7 @@
 // Question 1 of the head-end's state and of a listing's fields.
 ghost use Rattle.std.specs.Prelude.{◌≡◌, [], ◌<◌, take};
 ghost use Rattle.key_traffic.specs.Addresses.{address_fits_of};
-ghost use Rattle.headend_limits.specs.Limits.{place_fits_of, listing_fits_of, new_at, saids_differ_of, maximum, auth_keys_fit_of, entry_fits_of, shares_at, shares, is_apart_of, all_apart_of, entries_from, head_fits_of};
+ghost use Rattle.headend_limits.specs.Limits.{listing_fits_of, new_at, saids_differ_of, auth_keys_fit_of, entry_fits_of, shares, is_apart_of, all_apart_of, entries_from, head_fits_of};
 
 use headend_state::entries::{in_use, is_listing};
 use headend_state::state::{ALLOWED, AuthKeys, Entry, HeadEnd, NO_DEADLINE};
@@ -20,142 +20,112 @@ pub fn address_fits(address: u64) -> bool
     address < ADDRESS_BOUND
 }
 
-fn place_fits(l: Listing, i: usize) -> bool
-    requires { i < 4 }
-    ensures { result ≡ place_fits_of l i }
-{
-    let saids = l.saids;
-    let suites = l.suites;
-    (l.count <= i) | (said_fits(saids[i]) & suite_known(suites[i]))
-}
-
 // A listing's fields: 1 to 4 SAIDs of 14 bits, with known suites.
+#[tactic(auto, unfolding(crate::specs::Limits::listing_fits_of, crate::specs::Limits::place_fits_of))]
 pub fn listing_fits(l: Listing) -> bool
     ensures { result ≡ listing_fits_of l }
 {
     (SAIDS_MIN <= l.count)
         & (l.count <= SAIDS_MAX)
-        & place_fits(l, 0)
-        & place_fits(l, 1)
-        & place_fits(l, 2)
-        & place_fits(l, 3)
+        & l.saids
+            .iter()
+            .zip(l.suites.iter())
+            .take(l.count)
+            .all(|(said, suite)| said_fits(*said) & suite_known(*suite))
 }
 
 // Whether the SAID at a place is none of those before it.
+#[tactic(auto, unfolding(crate::specs::Limits::new_at))]
 fn is_new_at(l: Listing, i: usize) -> bool
     requires { i < 4 }
     ensures { result ≡ new_at l i }
 {
-    let s = l.saids;
-    (l.count <= i) | !is_named(i, s[0], s[1], s[2], s[3], s[i])
+    let [s0, s1, s2, s3] = l.saids;
+    (l.count <= i) | !is_named(i, s0, s1, s2, s3, l.saids[i])
 }
 
-// No SAID twice.
+// No SAID twice. Three places are asked one by one: an iterator over 1..4 that calls `is_new_at` is no plainer.
+#[tactic(auto, unfolding(crate::specs::Limits::saids_differ_of))]
 pub fn saids_differ(l: Listing) -> bool
     ensures { result ≡ saids_differ_of l }
 {
     is_new_at(l, 1) & is_new_at(l, 2) & is_new_at(l, 3)
 }
 
-fn maximum(a: u64, b: u64) -> u64
-    ensures { result ≡ maximum a b }
-{
-    if a < b {
-        return b;
-    }
-    a
-}
-
+#[tactic(auto, unfolding(crate::specs::Limits::auth_keys_fit_of))]
 fn auth_keys_fit(life: u64, clock: u64, k: AuthKeys) -> bool
     ensures { result ≡ auth_keys_fit_of life clock k }
 {
     ak_in_range(k.next)
         & is_within(k.older, clock, life)
-        & is_within(k.newer, maximum(clock, k.older), life)
+        & is_within(k.newer, clock.max(k.older), life)
         & ((k.older < k.newer) | ((k.older == NO_DEADLINE) & (k.newer == NO_DEADLINE)))
 }
 
+#[tactic(auto, unfolding(crate::specs::Limits::entry_fits_of))]
 fn entry_fits(life: u64, clock: u64, e: Entry) -> bool
     ensures { result ≡ entry_fits_of life clock e }
 {
-    let l = e.listing;
-    let k = e.keys;
     address_fits(e.address)
         & (e.allowed <= ALLOWED)
-        & listing_fits(l)
-        & saids_differ(l)
-        & auth_keys_fit(life, clock, k)
-}
-
-fn is_sharing_at(l: Listing, i: usize, m: Listing) -> bool
-    requires { i < 4 }
-    ensures { result ≡ shares_at l i m }
-{
-    let s = l.saids;
-    (i < l.count) & is_listing(m, s[i])
+        & listing_fits(e.listing)
+        & saids_differ(e.listing)
+        & auth_keys_fit(life, clock, e.keys)
 }
 
 // Whether two listings name a SAID in common.
+#[tactic(auto, unfolding(crate::specs::Limits::shares, crate::specs::Limits::shares_at))]
 fn is_sharing(l: Listing, m: Listing) -> bool
     ensures { result ≡ shares l m }
 {
-    is_sharing_at(l, 0, m)
-        | is_sharing_at(l, 1, m)
-        | is_sharing_at(l, 2, m)
-        | is_sharing_at(l, 3, m)
+    l.saids
+        .iter()
+        .take(l.count)
+        .any(|said| is_listing(m, *said))
 }
 
 // Whether an entry has another address and no SAID in common.
+#[tactic(auto, unfolding(crate::specs::Limits::is_apart_of))]
 fn is_apart(address: u64, l: Listing, e: Entry) -> bool
     ensures { result ≡ is_apart_of address l e }
 {
-    let m = e.listing;
-    !(e.address == address) & !is_sharing(l, m)
+    (e.address != address) & !is_sharing(l, e.listing)
 }
 
-// Whether the first few entries all are apart from an address and a listing.
+// Whether each of these entries is apart from an address and a listing.
+fn are_apart(entries: &[Entry], address: u64, l: Listing) -> bool
+    ensures { result ≡ all_apart_of address l entries.now }
+{
+    entries.iter().all(|e| is_apart(address, l, *e))
+}
+
+// The same of the first few of 16.
 pub fn all_apart(entries: [Entry; MODEMS_MAX], n: usize, address: u64, l: Listing) -> bool
     ensures { result ≡ all_apart_of address l (take n entries) }
 {
-    let end = in_use(n);
-    let mut i: usize = 0;
-    while i < end {
-        let e = entries[i];
-        if !is_apart(address, l, e) {
-            return false;
-        }
-        i += 1;
-    }
-    true
+    are_apart(&entries[..in_use(n)], address, l)
 }
 
-// Whether the entries in use are within the limits, each apart from those before it.
-fn entries_fit(entries: [Entry; MODEMS_MAX], n: usize, life: u64, clock: u64) -> bool
-    ensures { result ≡ entries_from life clock [] (take n entries) }
+// Whether each of these entries is within the limits, and apart from those before it.
+fn entries_fit(entries: &[Entry], life: u64, clock: u64) -> bool
+    ensures { result ≡ entries_from life clock [] entries.now }
 {
-    let end = in_use(n);
-    let mut i: usize = 0;
-    while i < end {
-        let e = entries[i];
-        let l = e.listing;
-        if !(entry_fits(life, clock, e) & all_apart(entries, i, e.address, l)) {
+    for (i, e) in entries.iter().enumerate() {
+        if !(entry_fits(life, clock, *e) & are_apart(&entries[..i], e.address, e.listing)) {
             return false;
         }
-        i += 1;
     }
     true
 }
 
 // Question 1 of the head-end's state.
+#[tactic(auto, unfolding(crate::specs::Limits::head_fits_of))]
 pub fn head_fits(h: HeadEnd) -> bool
     ensures { result ≡ head_fits_of h }
 {
-    let settings = h.settings;
-    let ak = settings.ak;
-    let entries = h.entries;
-    settings_fit(settings)
+    settings_fit(h.settings)
         & (h.clock <= CLOCK_MAX)
         & (h.modems <= MODEMS_MAX)
         & (h.used <= RECORDS_MAX)
-        & entries_fit(entries, h.modems, ak.life, h.clock)
+        & entries_fit(&h.entries[..in_use(h.modems)], h.settings.ak.life, h.clock)
 }

@@ -15,9 +15,7 @@ use questions::settings::half;
 pub fn half_in(h: HeadEnd) -> u64
     ensures { result ≡ half_in_of h }
 {
-    let settings = h.settings;
-    let tek = settings.tek;
-    half(tek)
+    half(h.settings.tek)
 }
 
 // A record out of its limits at the head-end's clock.
@@ -31,8 +29,7 @@ pub fn out_of_limits(h: HeadEnd) -> Probe
 pub fn one_of(l: Listing) -> Probe
     ensures { result ≡ one_of l }
 {
-    let s = l.saids;
-    Probe::OfOneOf(l.count, s[0], s[1], s[2], s[3])
+    Probe::OfOneOf(l)
 }
 
 // No record that is in use and lent is out of its limits: `bad` is the place of the first lent one that is, or `len`, the number lent.
@@ -46,8 +43,7 @@ pub fn records_fit(h: HeadEnd, bad: usize, len: usize) -> bool
 pub fn of_request(r: Reading) -> Probe
     ensures { result ≡ of_request_of r }
 {
-    let f = r.fields;
-    Probe::OfSaid(f.said)
+    Probe::OfSaid(r.fields.said)
 }
 
 // The record of a SAID.
@@ -62,11 +58,8 @@ pub fn of_said(said: u16) -> Probe
 pub fn found_suits(h: HeadEnd, len: usize, s: Found, k: Known, said: u16) -> bool
     ensures { result ≡ found_suits_of h len s k said }
 {
-    let a = s.held;
-    let e = k.entry;
-    let l = e.listing;
     (len < h.used)
         | ((s.at < h.used)
-            & record_fits(a, half_in(h), h.clock)
-            & is_listing_suite(l, said, a.suite))
+            & record_fits(s.held, half_in(h), h.clock)
+            & is_listing_suite(k.entry.listing, said, s.held.suite))
 }

@@ -1,13 +1,13 @@
--- Passing over the entries in use one by one, and a search by address: what is passed does not change what the rest says.
-use mathlib.Core.Path.{◌≡◌, sym, ◌∙◌, ap}
+-- The entries in use, and a search by address: what is passed does not change what the rest says.
+use mathlib.Core.Path.{◌≡◌, refl, sym, ◌∙◌, ap}
 use mathlib.Core.Bool.{Bool, true, false, cond}
-use mathlib.Core.List.{List, [], ◌∷◌, ◌++◌}
-use Prim.Native.Nat.{ℕ, suc, ◌+◌, ◌<◌}
-use native.Mathlib.Numerals.{add-one}
+use mathlib.Core.List.{List, []}
+use Prim.Native.Nat.{ℕ, zero, suc, ◌<◌, ◌≤◌}
 use native.Mathlib.Omega.{arith}
 use lib.Dec.{ltb, eqb}
 use lib.ListN.{length, get_or, take, drop}
-use lib.Seq.{length-take-le, take_all, take-suc, take-take, drop-cons, drop-length, get_or-take}
+use lib.Seq.{length-take-le, take_all, drop-cons, drop-length, get_or-take}
+use Rattle.std.specs.List.{HoldsAt, AllWithin}
 use Rattle.questions.proofs.ListLaws.{IfLt, if_lt}
 use Rattle.headend_state.specs.declared.state.Entry.{Entry}
 use Rattle.headend_state.specs.Entries.{in_use_of, here_or, known_here_of, known_none_of, known_from}
@@ -27,52 +27,49 @@ in_use_within n i small = go (ltb n 16) (if_lt n 16) small
     go true less h = (h, omega (arith, less))
     go false most h = (omega (arith, most), h)
 
--- ---- the entry at a place of those in use: what stands behind it, and what stands before the next
-module _ (n : ℕ) (es : List Entry) (long : length es ≡ 16) (i : ℕ) (d : Entry) (small : i < in_use_of n) where
-  within : i < length (take n es)
-  within = omega (arith, small, in_use_length n es long)
-
-  same : get_or (take n es) i d ≡ get_or es i d
-  same = get_or-take n es i d (in_use_within n i small).0
-
-  pub behind : drop i (take n es) ≡ get_or es i d ∷ drop (i + 1) (take n es)
-  behind =
-      drop-cons (take n es) i d within
-      ∙ ap (λ (k : ℕ). get_or (take n es) i d ∷ drop k (take n es)) (sym (add-one i))
-      ∙ ap (λ (e : Entry). e ∷ drop (i + 1) (take n es)) same
-
-  pub before_next : take (i + 1) (take n es) ≡ take i (take n es) ++ (get_or es i d ∷ [])
-  before_next =
-      ap (λ (k : ℕ). take k (take n es)) (add-one i)
-      ∙ take-suc (take n es) i d within
-      ∙ ap (λ (e : Entry). take i (take n es) ++ (e ∷ [])) same
-
-  -- those before it are the first i of all
-  pub before_all : take i (take n es) ≡ take i es
-  before_all = take-take i n es (omega (arith, (in_use_within n i small).0))
-
-module _ (es : List Entry) (i : ℕ) (e : Entry) (here : drop i es ≡ e ∷ drop (i + 1) es) where
-  -- ---- a search by address
-  module _ (address : ℕ) (passed : known_from address i (drop i es) ≡ known_from address 0 es) where
-    at_here : known_from address i (drop i es) ≡ here_or (eqb e.address address) i e (known_from address (suc i) (drop (i + 1) es))
-    unfolding known_from
-    at_here = ap (known_from address i) here
-
-    pub known_hit : eqb e.address address ≡ true → known_here_of i e ≡ known_from address 0 es
-    known_hit hit =
-        let found : known_from address i (drop i es) ≡ known_here_of i e = at_here ∙ simp hit in
-        sym found ∙ passed
-
-    pub known_miss : eqb e.address address ≡ false → known_from address (i + 1) (drop (i + 1) es) ≡ known_from address 0 es
-    known_miss miss =
-        let later : known_from address i (drop i es) ≡ known_from address (suc i) (drop (i + 1) es) = at_here ∙ simp miss in
-        ap (λ (k : ℕ). known_from address k (drop (i + 1) es)) (add-one i) ∙ sym later ∙ passed
-
 -- ---- where all are passed
-module _ (es : List Entry) (i : ℕ) (over : i ≡ length es) where
-  pub none_left : drop i es ≡ []
-  none_left = ap (λ (k : ℕ). drop k es) over ∙ drop-length es
+pub none_left : (es : List Entry) (i : ℕ) → i ≡ length es → drop i es ≡ []
+none_left es i over = ap (λ (k : ℕ). drop k es) over ∙ drop-length es
 
-  pub known_end : (address : ℕ) → known_from address i (drop i es) ≡ known_from address 0 es → known_none_of i ≡ known_from address 0 es
+-- ---- a search by address that passes the first i: none of them has it
+module _ (es : List Entry) (address : ℕ) (d : Entry) where
+  at_here : (i : ℕ) → i < length es
+      → known_from address i (drop i es) ≡ here_or (eqb (get_or es i d).address address) i (get_or es i d) (known_from address (suc i) (drop (suc i) es))
   unfolding known_from
-  known_end address passed = sym (ap (known_from address i) none_left) ∙ passed
+  at_here i less = ap (known_from address i) (drop-cons es i d less)
+
+  known_passed : (i : ℕ) → i ≤ length es → ((k : ℕ) → k < i → eqb (get_or es k d).address address ≡ false) → known_from address i (drop i es) ≡ known_from address 0 es
+  known_passed zero few miss = refl
+  known_passed (suc i) few miss =
+      let later : known_from address i (drop i es) ≡ known_from address (suc i) (drop (suc i) es) = at_here i (omega arith) ∙ simp (miss i (omega arith)) in
+      sym later ∙ known_passed i (omega arith) (λ k less. miss k (omega arith))
+
+  known_first : (i : ℕ) → i < length es → eqb (get_or es i d).address address ≡ true → ((k : ℕ) → k < i → eqb (get_or es k d).address address ≡ false)
+      → known_here_of i (get_or es i d) ≡ known_from address 0 es
+  known_first i less hit miss =
+      let found : known_from address i (drop i es) ≡ known_here_of i (get_or es i d) = at_here i less ∙ simp hit in
+      sym found ∙ known_passed i (omega arith) miss
+
+  known_nowhere : ((k : ℕ) → k < length es → eqb (get_or es k d).address address ≡ false) → known_none_of (length es) ≡ known_from address 0 es
+  unfolding known_from
+  known_nowhere miss = sym (ap (known_from address (length es)) (none_left es (length es) refl)) ∙ known_passed (length es) (omega arith) miss
+
+-- the same of the first n of 16, by what a search over them answers
+module _ (n : ℕ) (es : List Entry) (long : length es ≡ 16) (address : ℕ) (d : Entry) where
+  abbrev Misses : Entry → Type 0
+  Misses e = eqb e.address address ≡ false
+
+  abbrev Hits : Entry → Type 0
+  Hits e = eqb e.address address ≡ true
+
+  pub known_found : (i : ℕ) → (i < length (take n es)) × HoldsAt Hits (take n es) i × AllWithin Misses (take n es) 0 i
+      → known_here_of i (get_or es i d) ≡ known_from address 0 (take n es)
+  known_found i f =
+      let small : i < in_use_of n = omega (arith, f.0, in_use_length n es long) in
+      ap (known_here_of i) (sym (get_or-take n es i d (in_use_within n i small).0))
+      ∙ known_first (take n es) address d i f.0 (f.1 d) (λ k less. f.2 k d (omega arith) less)
+
+  pub known_missed : AllWithin Misses (take n es) 0 (length (take n es)) → known_none_of (in_use_of n) ≡ known_from address 0 (take n es)
+  known_missed miss =
+      ap known_none_of (sym (in_use_length n es long))
+      ∙ known_nowhere (take n es) address d (λ k less. miss k d (omega arith) less)

@@ -1,2 +1,3 @@
 pub mod EntriesLaws
 pub mod AuthorizationLaws
+pub mod PlaceLaws

@@ -1,6 +1,6 @@
 -- The head-end's state with parts exchanged, a fresh one, and what a call hands back.
 use Rattle.std.specs.Prelude.{ℕ, List, replicate}
-use Rattle.questions.specs.declared.refusal.Answer.{Answer}
+use Rattle.questions.specs.Answer.{Answer}
 use Rattle.questions.specs.declared.settings.Settings.{Settings}
 use Rattle.key_association.specs.Listing.{no_listing_of}
 use Rattle.headend_state.specs.declared.state.AuthKeys.{AuthKeys}

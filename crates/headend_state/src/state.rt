@@ -1,20 +1,19 @@
 // The head-end's state, and what a call hands back.
 ghost use Rattle.std.specs.Prelude.{◌≡◌};
-ghost use Rattle.questions.specs.Refusal.{answer_number_of};
 ghost use Rattle.headend_state.specs.State.{no_entry_of, fresh_of, answered_call};
 
 use key_association::listing::{Listing, no_listing};
 use key_traffic::numbers::AkNumber;
 use questions::limits::MODEMS_MAX;
-use questions::refusal::{Answer, answer_number};
+use questions::refusal::Answer;
 use questions::settings::Settings;
 
-// What `allowed` may be.
+// What `allowed` may be: numbers and no enum, as C gives them.
 pub const BARRED: u8 = 0;
 
 pub const ALLOWED: u8 = 1;
 
-// The deadline where no key is made.
+// The deadline where no key is made; no Option, as C sees the struct.
 pub const NO_DEADLINE: u64 = 0;
 
 // The authorization keys of a modem: the number that the next one gets, and the deadlines of the last two made, or NO_DEADLINE.
@@ -57,21 +56,22 @@ pub struct Called {
     pub count: usize,
 }
 
+// No authorization key yet.
+pub const NO_KEYS: AuthKeys = AuthKeys {
+    next: AkNumber(0),
+    older: NO_DEADLINE,
+    newer: NO_DEADLINE,
+};
+
 // An entry that is not in use.
 pub fn no_entry() -> Entry
     ensures { result ≡ no_entry_of }
 {
-    let listing = no_listing();
-    let keys = AuthKeys {
-        next: AkNumber(0),
-        older: NO_DEADLINE,
-        newer: NO_DEADLINE,
-    };
     Entry {
         address: 0,
-        allowed: 0,
-        listing: listing,
-        keys: keys,
+        allowed: BARRED,
+        listing: no_listing(),
+        keys: NO_KEYS,
     }
 }
 
@@ -79,12 +79,11 @@ pub fn no_entry() -> Entry
 pub fn fresh(settings: Settings) -> HeadEnd
     ensures { result ≡ fresh_of settings }
 {
-    let e = no_entry();
     HeadEnd {
-        settings: settings,
+        settings,
         clock: 0,
         modems: 0,
-        entries: [e; MODEMS_MAX],
+        entries: [no_entry(); MODEMS_MAX],
         used: 0,
         taken: 0,
         refused: 0,
@@ -92,20 +91,12 @@ pub fn fresh(settings: Settings) -> HeadEnd
 }
 
 // An answer with a state, where nothing is written.
-pub fn answered(h: HeadEnd, a: Answer) -> Called
-    ensures { result ≡ answered_call a h }
+pub fn answered(state: HeadEnd, answer: Answer) -> Called
+    ensures { result ≡ answered_call answer state }
 {
     Called {
-        answer: a,
-        state: h,
+        answer,
+        state,
         count: 0,
     }
-}
-
-// Document 01's number of a call's answer.
-pub fn called_number(c: Called) -> u8
-    ensures { result ≡ answer_number_of c.answer }
-{
-    let a = c.answer;
-    answer_number(a)
 }

@@ -31,7 +31,8 @@ use Rattle.headend_state.specs.declared.state.AuthKeys.{AuthKeys}
 use Rattle.headend_state.specs.Authorization.{life_left}
 use Rattle.headend_state.specs.Entries.{said_at}
 use Rattle.headend_answers.specs.AnswerFields.{reject, invalid, key_reject, descriptor_at_of, reply_answer_of, params_at, key_reply_of}
-use Rattle.headend_limits.proofs.ListingLaws.{ListingIn, by_four}
+use Rattle.headend_state.proofs.PlaceLaws.{by_four}
+use Rattle.headend_limits.proofs.ListingLaws.{ListingIn}
 
 -- ---- answers with an error
 pub reject_fits : (i e : ℕ) → fields_fit_of (reject i e) ≡ true

@@ -1,39 +1,30 @@
 -- What a call's passed questions say: the facts of each, from the answer `Done`.
 use mathlib.Core.Logic.{◌⊎◌, inl, inr}
 use mathlib.Core.Path.{◌≡◌, refl}
-use mathlib.Core.Bool.{Bool, true, false, ◌&&◌}
+use mathlib.Core.Bool.{Bool, true, ◌&&◌}
 use mathlib.Core.List.{List, [], ◌∷◌}
 use Prim.Native.Nat.{ℕ, ◌+◌, ◌*◌, ◌<◌, ◌≤◌}
 use native.Mathlib.Omega.{arith}
 use lib.Dec.{leb, ltb, eqb}
-use lib.ListN.{length}
 use borrow.Author.Tests.{leb-true, ltb-true, eqb-true}
-use Rattle.questions.specs.declared.refusal.Answer.{Answer}
-use Rattle.questions.specs.declared.refusal.Answer.TheVariants.{Done, Refused}
+use Rattle.questions.specs.Answer.{Answer, Done, Refused}
 use Rattle.questions.specs.declared.refusal.Refusal.TheVariants.{OutOfLimits, WrongLength, WrongIdentifier}
 use Rattle.questions.specs.Questions.{Question, first_no, answer_then}
-use Rattle.questions.specs.Refusal.{is_done_of}
 use Rattle.questions.proofs.TestLaws.{both, either}
 use Rattle.key_association.specs.declared.listing.Listing.{Listing}
 use Rattle.key_association.specs.declared.search.Found.{Found}
 use Rattle.key_traffic.specs.Addresses.{said_fits_of, address_fits_of}
 use Rattle.message_rules.specs.declared.fields.Reading.{Reading}
-use Rattle.questions.proofs.AnswerLaws.{done_met, is-done}
+use Rattle.questions.proofs.AnswerLaws.{done_met}
 use Rattle.headend_state.specs.declared.state.HeadEnd.{HeadEnd}
-use Rattle.headend_answers.specs.declared.answers.Reaction.{Reaction}
-use Rattle.headend_state.specs.State.{with_clock_of, answered_call}
 use Rattle.headend_state.specs.Entries.{entries_of, known_of}
 use Rattle.headend_limits.specs.Limits.{listing_fits_of, saids_differ_of, all_apart_of, head_fits_of}
 use Rattle.headend_limits.specs.Search.{records_fit_of}
-use Rattle.headend_steps.specs.Listing.{list_questions, list_answer_of, list_for, grown}
-use Rattle.headend_steps.specs.Clock.{clock_questions, clock_answer_of, clock_for}
-use Rattle.headend_steps.specs.Receive.{record_suits_of, identifier_fits_of, receive_answer_of, called_for, written_for, answer_octets}
+use Rattle.headend_steps.specs.Listing.{list_questions, list_answer_of}
+use Rattle.headend_steps.specs.Clock.{clock_questions, clock_answer_of}
+use Rattle.headend_steps.specs.Receive.{record_suits_of, identifier_fits_of, receive_answer_of}
 
 -- ---- answers
-not_done : (a : Answer) → is_done_of a ≡ false → a ≡ Done → ◌≡◌ {A = ℕ} 0 1
-not_done Done e d = cc
-not_done (Refused r) e d = cc
-
 then_done : (a b : Answer) → answer_then a b ≡ Done → (a ≡ Done) × (b ≡ Done)
 then_done Done b e = (refl, e)
 then_done (Refused r) b e = let z : ◌≡◌ {A = ℕ} 0 1 = cc in absurd (omega arith)
@@ -48,13 +39,6 @@ records_in h bad len e all = go (either (leb h.used bad) (leb len bad) e)
 
 -- ---- a listing
 module _ (h : HeadEnd) (address allowed : ℕ) (l : Listing) where
-  pub list_refused : (a : Answer) → is_done_of a ≡ false → answered_call a h ≡ list_for a h address allowed l
-  list_refused Done e = let z : ◌≡◌ {A = ℕ} 0 1 = not_done Done e refl in absurd (omega arith)
-  list_refused (Refused r) e = refl
-
-  pub list_grown : (a : Answer) → is_done_of a ≡ true → answered_call a (grown h address allowed l) ≡ list_for a h address allowed l
-  list_grown a e = rw (is-done a e)
-
   module _ (bad clash len octets : ℕ) where
     pub record ListAsked : Type 0 where
       pub fits : head_fits_of h ≡ true
@@ -102,13 +86,6 @@ module _ (h : HeadEnd) (address allowed : ℕ) (l : Listing) where
 
 -- ---- the clock
 module _ (h : HeadEnd) (t : ℕ) where
-  pub clock_refused : (a : Answer) → is_done_of a ≡ false → answered_call a h ≡ clock_for a h t
-  clock_refused Done e = let z : ◌≡◌ {A = ℕ} 0 1 = not_done Done e refl in absurd (omega arith)
-  clock_refused (Refused r) e = refl
-
-  pub clock_moved : (a : Answer) → is_done_of a ≡ true → answered_call a (with_clock_of h t) ≡ clock_for a h t
-  clock_moved a e = rw (is-done a e)
-
   module _ (bad len octets : ℕ) where
     pub record ClockAsked : Type 0 where
       pub fits : head_fits_of h ≡ true
@@ -135,15 +112,6 @@ module _ (h : HeadEnd) (t : ℕ) where
         }
 
 -- ---- a message
-module _ (h : HeadEnd) (w : Reaction) (auth write : List ℕ) where
-  pub receive_refused : (a : Answer) → is_done_of a ≡ false → (answered_call a h ≡ called_for a h w auth write) × ([] ≡ written_for a w auth write)
-  receive_refused Done e = let z : ◌≡◌ {A = ℕ} 0 1 = not_done Done e refl in absurd (omega arith)
-  receive_refused (Refused r) e = (refl, refl)
-
-  pub receive_done : (a : Answer) → is_done_of a ≡ true
-      → (record { answer = a; state = w.state; count = length (answer_octets w.answer auth write) } ≡ called_for a h w auth write) × (answer_octets w.answer auth write ≡ written_for a w auth write)
-  receive_done a e = rw (is-done a e) (refl, refl)
-
 module _ (h : HeadEnd) (bad len : ℕ) (s : Found) (address : ℕ) (digest keys : Bool) (r : Reading) (key lent : ℕ) where
   pub record ReceiveAsked : Type 0 where
     pub fits : head_fits_of h ≡ true

@@ -7,7 +7,6 @@ use lib.Dec.{eqb}
 use lib.ListN.{length}
 use Rattle.key_traffic.specs.Octets.{overlay}
 use Rattle.message_rules.specs.declared.fields.Fields.{Fields}
-use Rattle.message_rules.specs.declared.fields.Writing.{Writing}
 use Rattle.message_digest.specs.Digest.{signed_of}
 use Rattle.message_digest.specs.Written.{written_of, write_of}
 use Rattle.message_digest.proofs.CallLaws.{call_done}
@@ -29,8 +28,8 @@ module _ (f : Fields) (auth write lent : List ℕ) where
     unfolding answer_octets
     message_is = rw some
 
-    pub answer_put : (r : Writing) (after : List ℕ) → r ≡ write_of f auth write (length lent) → after ≡ overlay lent (written_of f auth write (length lent)) → Written r.count after
+    pub answer_put : (n : ℕ) (after : List ℕ) → n ≡ (write_of f auth write (length lent)).count → after ≡ overlay lent (written_of f auth write (length lent)) → Written n after
     unfolding write_of
-    answer_put r after e ea =
+    answer_put n after e ea =
         let same = taken ∙ message_is in
-        (ap (λ (x : Writing). x.count) e ∙ ap length same, ea ∙ ap (overlay lent) same)
+        (e ∙ ap length same, ea ∙ ap (overlay lent) same)

@@ -1,7 +1,6 @@
 -- The head-end's clock: its questions and the head-end after it (document 01, questions 1 to 3).
 use Rattle.std.specs.Prelude.{◌&&◌, List, [], ◌∷◌, ℕ, ◌*◌, leb, eqb}
-use Rattle.questions.specs.declared.refusal.Answer.{Answer}
-use Rattle.questions.specs.declared.refusal.Answer.TheVariants.{Done, Refused}
+use Rattle.questions.specs.Answer.{Answer, Done, Refused}
 use Rattle.questions.specs.declared.refusal.Refusal.TheVariants.{OutOfLimits, WrongLength, ClockOutOfOrder}
 use Rattle.questions.specs.Questions.{Question, first_no}
 use Rattle.headend_state.specs.declared.state.HeadEnd.{HeadEnd}

@@ -1,7 +1,6 @@
 -- Listing a modem: its questions and the head-end after it (document 01, "Traffic keys at the head-end", questions 1, 2, 4 and 5).
 use Rattle.std.specs.Prelude.{◌&&◌, List, [], ◌∷◌, ℕ, ◌+◌, ◌*◌, leb, ltb, eqb, set}
-use Rattle.questions.specs.declared.refusal.Answer.{Answer}
-use Rattle.questions.specs.declared.refusal.Answer.TheVariants.{Done, Refused}
+use Rattle.questions.specs.Answer.{Answer, Done, Refused}
 use Rattle.questions.specs.declared.refusal.Refusal.TheVariants.{OutOfLimits, WrongLength, NoFreePlace, NotNew}
 use Rattle.questions.specs.Questions.{Question, first_no}
 use Rattle.key_association.specs.declared.listing.Listing.{Listing}

@@ -1,7 +1,6 @@
 -- A message at the head-end: its questions, and what is done where all are met (document 01, "Head-end answers" and questions 1, 2, 6 to 9, 11).
 use Rattle.std.specs.Prelude.{◌≡◌, Bool, true, false, cond, ◌&&◌, ◌||◌, not, List, [], ◌∷◌, ℕ, ◌≤◌, leb, eqb, length}
-use Rattle.questions.specs.declared.refusal.Answer.{Answer}
-use Rattle.questions.specs.declared.refusal.Answer.TheVariants.{Done, Refused}
+use Rattle.questions.specs.Answer.{Answer, Done, Refused}
 use Rattle.questions.specs.declared.refusal.Refusal.TheVariants.{OutOfLimits, WrongLength, WrongIdentifier}
 use Rattle.questions.specs.Questions.{first_then}
 use Rattle.key_association.specs.declared.search.Found.{Found}

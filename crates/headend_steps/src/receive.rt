@@ -22,7 +22,7 @@ use message_rules::codes::{
 use message_rules::fields::{Fields, Reading, Receiver};
 use message_writer::write::write;
 use questions::limits::TEK_LIFE_MAX;
-use questions::refusal::{Answer, Refusal, and_then, ask, is_done};
+use questions::refusal::{Answer, Refusal, ask};
 
 // Questions 6 to 9 at the head-end, and the fields.
 pub fn read_request(message: &[u8]) -> Reading
@@ -32,26 +32,27 @@ pub fn read_request(message: &[u8]) -> Reading
 }
 
 // Question 1 of the record that a Key Reply is made from, and of the lives that it carries.
+#[tactic(auto, unfolding(crate::specs::Receive::record_suits_of))]
 fn record_suits(h: HeadEnd, len: usize, s: Found, k: Known, digest: bool, f: Fields) -> bool
     ensures { result ≡ record_suits_of h len s k digest f }
 {
-    let a = s.held;
-    let answer = key_answer(h.clock, k, a, digest, f);
-    let newer = answer.newer;
+    let answer = key_answer(h.clock, k, s.held, digest, f);
     !((f.code == CODE_KEY_REQUEST) & (answer.code == CODE_KEY_REPLY))
-        | (found_suits(h, len, s, k, f.said) & (newer.life <= TEK_LIFE_MAX))
+        | (found_suits(h, len, s, k, f.said) & (answer.newer.life <= TEK_LIFE_MAX))
 }
 
 // Question 11: Authentication Information has Identifier 0.
+#[tactic(auto, unfolding(crate::specs::Receive::identifier_fits_of))]
 fn identifier_fits(f: Fields) -> bool
     ensures { result ≡ identifier_fits_of f }
 {
     !(f.code == CODE_AUTHENTICATION_INFORMATION) | (f.identifier == UNSOLICITED)
 }
 
-// All questions of the call. `bad` is the place of the first record out of its limits, `len` the number of records lent, `s` what was
-// found for the SAID, `digest` whether the message's digest holds, `keys` whether both message keys have their length, `r` the reading, and the last
-// two are the lengths of the AUTH-Key and of the lent slice.
+// All questions of the call, each fact by itself as `receive_answer_of` takes it. `bad` is the place of the first record out of its limits, `len` the
+// number of records lent, `s` what was found for the SAID, `digest` whether the message's digest holds, `keys` whether both message keys have their
+// length, `r` the reading, and the last two are the lengths of the AUTH-Key and of the lent slice.
+#[tactic(auto, unfolding(crate::specs::Receive::receive_answer_of))]
 fn receive_answer(
     h: HeadEnd,
     bad: usize,
@@ -66,23 +67,24 @@ fn receive_answer(
 ) -> Answer
     ensures { result ≡ receive_answer_of h bad len s address digest keys r auth lent }
 {
-    let f = r.fields;
-    let k = entry_of(h, address);
-    let q1 = head_fits(h)
-        & records_fit(h, bad, len)
-        & address_fits(address)
-        & said_fits(f.said)
-        & record_suits(h, len, s, k, digest, f);
-    let q2 = (ANSWER_OCTETS <= lent)
-        & (AUTH_KEY_OCTETS_MIN <= auth)
-        & (auth <= AUTH_KEY_OCTETS_MAX)
-        & keys
-        & (h.used <= len);
-    let a2 = ask(q2, Refusal::WrongLength, Answer::Done);
-    let first = ask(q1, Refusal::OutOfLimits, a2);
-    let read = r.answer;
-    let last = ask(identifier_fits(f), Refusal::WrongIdentifier, Answer::Done);
-    and_then(first, and_then(read, last))
+    ask(
+        head_fits(h)
+            & records_fit(h, bad, len)
+            & address_fits(address)
+            & said_fits(r.fields.said)
+            & record_suits(h, len, s, entry_of(h, address), digest, r.fields),
+        Refusal::OutOfLimits,
+    )?;
+    ask(
+        (ANSWER_OCTETS <= lent)
+            & (AUTH_KEY_OCTETS_MIN <= auth)
+            & (auth <= AUTH_KEY_OCTETS_MAX)
+            & keys
+            & (h.used <= len),
+        Refusal::WrongLength,
+    )?;
+    r.answer?;
+    ask(identifier_fits(r.fields), Refusal::WrongIdentifier)
 }
 
 // Writes an answer, where there is one; how many octets is handed back.
@@ -92,10 +94,10 @@ pub fn put_answer(f: Fields, auth: &[u8], write_key: &[u8], out: &mut [u8]) -> u
         × (out.new ≡ overlay out.old (answer_octets f auth.now write_key.now)) }
 {
     if f.code == CODE_NONE {
-        return 0;
+        0
+    } else {
+        write(f, auth, write_key, out).unwrap_or(0)
     }
-    let w = write(f, auth, write_key, out);
-    w.count
 }
 
 // The call, with what the searches over the records found and what the reader read of the message. The message's digest is asked under `read_key`,
@@ -118,10 +120,9 @@ pub fn receive_called(
         × (out.new ≡ overlay out.old (receive_written_of h bad len s address (digest_holds_of read_key.now r.digest message.now) (keys_fit_of read_key.now write_key.now)
         r auth.now write_key.now (length out.old))) }
 {
-    let place = r.digest;
-    let digest = is_digest_right(message, place, read_key);
+    let digest = is_digest_right(message, r.digest, read_key);
     let keys = message_key_fits(read_key) & message_key_fits(write_key);
-    let a = receive_answer(
+    match receive_answer(
         h,
         bad,
         len,
@@ -132,20 +133,15 @@ pub fn receive_called(
         r,
         auth.len(),
         out.len(),
-    );
-    if !is_done(a) {
-        return answered(h, a);
-    }
-    let f = r.fields;
-    let k = entry_of(h, address);
-    let record = s.held;
-    let w = react(h, k, record, digest, f);
-    let answer = w.answer;
-    let next = w.state;
-    let n = put_answer(answer, auth, write_key, out);
-    Called {
-        answer: a,
-        state: next,
-        count: n,
+    ) {
+        Ok(()) => {
+            let reaction = react(h, entry_of(h, address), s.held, digest, r.fields);
+            Called {
+                answer: Ok(()),
+                state: reaction.state,
+                count: put_answer(reaction.answer, auth, write_key, out),
+            }
+        }
+        Err(no) => answered(h, Err(no)),
     }
 }

@@ -27,12 +27,10 @@ pub struct Listing {
 pub fn no_listing() -> Listing
     ensures { result ≡ no_listing_of }
 {
-    let saids = [0u16; SAIDS_MAX];
-    let suites = [0u16; SAIDS_MAX];
     Listing {
         count: 0,
-        saids: saids,
-        suites: suites,
+        saids: [0u16; SAIDS_MAX],
+        suites: [0u16; SAIDS_MAX],
     }
 }
 
@@ -40,10 +38,7 @@ pub fn no_listing() -> Listing
 pub fn is_named(count: usize, s0: u16, s1: u16, s2: u16, s3: u16, said: u16) -> bool
     ensures { result ≡ names_of count s0 s1 s2 s3 said }
 {
-    ((0 < count) & (s0 == said))
-        | ((1 < count) & (s1 == said))
-        | ((2 < count) & (s2 == said))
-        | ((3 < count) & (s3 == said))
+    [s0, s1, s2, s3].iter().take(count).any(|s| *s == said)
 }
 
 // The record of the SAID at place `i` of a listing at the second `clock`, from the 64 octets of `m` at `at`.
@@ -51,22 +46,18 @@ pub fn listed(l: Listing, i: usize, half: u64, clock: u64, m: &[u8], at: usize) 
     requires { Listable half clock × ((i < 4) × (at + 64 ≤ length m.now)) }
     ensures { result ≡ listed_of half clock m.now at l i }
 {
-    let saids = l.saids;
-    let suites = l.suites;
-    let suite = suites[i];
+    let suite = l.suites[i];
     let w = width(suite);
-    let first = mint(m, at, w, TekNumber(FIRST_NUMBER), clock + half);
-    let second = mint(
-        m,
-        at + KEY_MATERIAL,
-        w,
-        TekNumber(SECOND_NUMBER),
-        clock + 2 * half,
-    );
     Assoc {
-        said: saids[i],
-        suite: suite,
-        older: first,
-        newer: second,
+        said: l.saids[i],
+        suite,
+        older: mint(m, at, w, TekNumber(FIRST_NUMBER), clock + half),
+        newer: mint(
+            m,
+            at + KEY_MATERIAL,
+            w,
+            TekNumber(SECOND_NUMBER),
+            clock + 2 * half,
+        ),
     }
 }

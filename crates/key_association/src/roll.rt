@@ -14,33 +14,35 @@ pub fn rolled(a: Assoc, half: u64, t: u64, m: &[u8], at: usize) -> Assoc
     requires { Rollable half t a × (at + 64 ≤ length m.now) }
     ensures { result ≡ rolled_of half t m.now at a }
 {
-    let older = a.older;
-    let newer = a.newer;
-    if t < older.deadline {
+    if t < a.older.deadline {
         return a;
     }
     let w = width(a.suite);
-    if t < newer.deadline {
-        let next = mint(m, at, w, tek_after(newer.number, 1), newer.deadline + half);
+    if t < a.newer.deadline {
+        let next = mint(
+            m,
+            at,
+            w,
+            tek_after(a.newer.number, 1),
+            a.newer.deadline + half,
+        );
         return Assoc {
-            said: a.said,
-            suite: a.suite,
-            older: newer,
+            older: a.newer,
             newer: next,
+            ..a
         };
     }
-    let first = mint(m, at, w, tek_after(newer.number, 1), t + half);
+    let first = mint(m, at, w, tek_after(a.newer.number, 1), t + half);
     let second = mint(
         m,
         at + KEY_MATERIAL,
         w,
-        tek_after(newer.number, 2),
+        tek_after(a.newer.number, 2),
         t + 2 * half,
     );
     Assoc {
-        said: a.said,
-        suite: a.suite,
         older: first,
         newer: second,
+        ..a
     }
 }

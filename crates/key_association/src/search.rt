@@ -2,16 +2,16 @@
 ghost use Rattle.std.specs.Prelude.{◌≡◌};
 ghost use Rattle.key_association.specs.Search.{hit_of, found_at_of, missed_at_of};
 
-use crate::listing::is_named;
+use crate::listing::{Listing, is_named};
 use crate::record::{Assoc, record_fits};
 use key_traffic::traffic::no_key;
 
-// A record of one SAID; a record out of its limits for a half lifetime and a clock; a record of one of the first few of four SAIDs.
+// A record of one SAID; a record out of its limits for a half lifetime and a clock; a record of one of a listing's SAIDs.
 #[derive(Clone, Copy)]
 pub enum Probe {
     OfSaid(u16),
     OutOfLimits(u64, u64),
-    OfOneOf(usize, u16, u16, u16, u16),
+    OfOneOf(Listing),
 }
 
 // Whether a record is what is looked for.
@@ -21,7 +21,10 @@ pub fn is_hit(a: Assoc, p: Probe) -> bool
     match p {
         Probe::OfSaid(said) => a.said == said,
         Probe::OutOfLimits(half, clock) => !record_fits(a, half, clock),
-        Probe::OfOneOf(count, s0, s1, s2, s3) => is_named(count, s0, s1, s2, s3, a.said),
+        Probe::OfOneOf(l) => {
+            let s = l.saids;
+            is_named(l.count, s[0], s[1], s[2], s[3], a.said)
+        }
     }
 }
 
@@ -29,7 +32,6 @@ pub fn is_hit(a: Assoc, p: Probe) -> bool
 #[repr(C)]
 #[derive(Clone, Copy)]
 pub struct Found {
-    pub found: bool,
     pub at: usize,
     pub held: Assoc,
 }
@@ -38,11 +40,7 @@ pub struct Found {
 pub fn found_at(at: usize, a: Assoc) -> Found
     ensures { result ≡ found_at_of at a }
 {
-    Found {
-        found: true,
-        at: at,
-        held: a,
-    }
+    Found { at, held: a }
 }
 
 // A search that found none among `at` records.
@@ -56,9 +54,5 @@ pub fn missed_at(at: usize) -> Found
         older: key,
         newer: key,
     };
-    Found {
-        found: false,
-        at: at,
-        held: record,
-    }
+    Found { at, held: record }
 }

@@ -10,7 +10,12 @@ use mathlib.Core.Logic.{◌⊎◌, inl, inr}
 use lib.Dec.{T, ltb}
 use borrow.Author.Tests.{ltb-true, ltb-false}
 use lib.ListN.{length, get_or, set, take, drop, length-append, length-drop, take-append-drop}
-use lib.Seq.{drop-cons, drop-length, length-take-le, append_snoc, set_at}
+use Rattle.std.specs.Prelude.{Option, Some, None}
+use Rattle.std.specs.Option.{unwrap_or}
+use Rattle.std.specs.List.{position_or_len}
+use Rattle.std.proofs.lemmas.List.Recursion.{is_position_or_len}
+use Rattle.std.proofs.lemmas.List.Sums.{prefix_len-le-length}
+use lib.Seq.{get_or-take, drop-cons, length-take-le, append_snoc, set_at}
 use Rattle.key_association.specs.declared.record.Assoc.{Assoc}
 use Rattle.key_association.specs.declared.listing.Listing.{Listing}
 use Rattle.key_association.specs.declared.search.Probe.{Probe}
@@ -39,34 +44,19 @@ by_test i n false e = inr (ltb-false i n e)
 pub less_or_not : (i n : ℕ) → (i < n) ⊎ (n ≤ i)
 less_or_not i n = by_test i n (ltb i n) refl
 
--- ---- the search: what is passed has no hit, so the answer is i and the answer among the rest
-module _ (f : Assoc → Bool) (ys : List Assoc) where
-  abbrev pub Passed : ℕ → Type 0
-  Passed i = first_by f ys ≡ i + first_by f (drop i ys)
+-- ---- the search
+-- the place that a search by position gives, or the number of records
+first_is_position : (f : Assoc → Bool) (xs : List Assoc) → first_by f xs ≡ position_or_len f xs
+unfolding first_by
+first_is_position f = is_position_or_len (first_by f) f refl (λ x ys. ap (λ (k : ℕ). cond (f x) 0 k) (omega arith))
 
-  pub first_start : Passed 0
-  first_start = omega arith
-
-  module _ (i : ℕ) (passed : Passed i) where
-    at_rest : i < length ys → first_by f (drop i ys) ≡ cond (f (get_or ys i none)) 0 (suc (first_by f (drop (i + 1) ys)))
-    unfolding first_by
-    at_rest small = rw (drop-cons ys i none, add-one i)
-
-    pub first_hit : i < length ys → f (get_or ys i none) ≡ true → i ≡ first_by f ys
-    first_hit small hit =
-        let here : first_by f (drop i ys) ≡ 0 = at_rest small ∙ simp hit in
-        omega arith
-
-    pub first_miss : i < length ys → f (get_or ys i none) ≡ false → Passed (i + 1)
-    first_miss small miss =
-        let here : first_by f (drop i ys) ≡ suc (first_by f (drop (i + 1) ys)) = at_rest small ∙ simp miss in
-        omega arith
-
-    pub first_end : i ≡ length ys → i ≡ first_by f ys
-    unfolding first_by
-    first_end e =
-        let here : first_by f (drop i ys) ≡ 0 = ap (λ (k : ℕ). first_by f (drop k ys)) e ∙ ap (first_by f) (drop-length ys) in
-        omega arith
+pub first_position : (f : Assoc → Bool) (xs : List Assoc) (r : Option ℕ) (n : ℕ) → r ≡ cond (ltb (position_or_len f xs) (length xs)) (Some (position_or_len f xs)) None
+    → n ≡ unwrap_or r (length xs) → n ≡ first_by f xs
+first_position f xs r n e u = u ∙ ap (λ (o : Option ℕ). unwrap_or o (length xs)) e ∙ go (ltb (position_or_len f xs) (length xs)) refl ∙ sym (first_is_position f xs)
+  where
+    go : (t : Bool) → ltb (position_or_len f xs) (length xs) ≡ t → unwrap_or (cond t (Some (position_or_len f xs)) None) (length xs) ≡ position_or_len f xs
+    go true e = refl
+    go false e = omega (arith, ltb-false _ _ e, prefix_len-le-length (λ x. not (f x)) xs)
 
 -- ---- what a search says of the records
 past : (z : Bool) (k n : ℕ) → suc n ≤ cond z 0 (suc k) → (z ≡ false) × (n ≤ k)
@@ -151,6 +141,20 @@ module _ (half t : ℕ) (m : List ℕ) where
         ap (set after i) (e ∙ ap (rolled_of half t m (i * 64)) (at_to 0 i xs) ∙ ap (λ (n : ℕ). rolled_of half t m n (get_or xs i none)) k)
         ∙ step_to 0 i xs small
         ∙ ap (λ (n : ℕ). rolled_to half t m 0 n xs) (sym (add-one i))
+
+  -- the records after those in use take no part
+  pub rolled_front : (at i : ℕ) (xs : List Assoc) → rolled_to half t m at i (take i xs) ++ drop i xs ≡ rolled_to half t m at i xs
+  rolled_front at zero xs = refl
+  rolled_front at (suc i) [] = refl
+  rolled_front at (suc i) (x ∷ xs) = ap (λ (l : List Assoc). rolled_of half t m at x ∷ l) (rolled_front (next_place at) i xs)
+
+  pub fit_front : (used len : ℕ) (xs : List Assoc) → RollFit used half t xs len → RollFit used half t (take used xs) len
+  fit_front used len xs fit =
+      record {
+        places = rw (length-take-le used xs fit.places) (omega arith);
+        enough = fit.enough;
+        rollable = λ i small. rw (get_or-take used xs i none small) (fit.rollable i small);
+      }
 
   -- The records that show the last two keys made of each SAID show those after the clock's call
   pub roll_lines : (at : ℕ) (ls : List Generations) (rest : List Assoc) → rolled_to half t m at (length ls) (map record_of ls ++ rest) ≡ map record_of (all_generations_to half t m at ls) ++ rest

@@ -16,14 +16,10 @@ use key_traffic::traffic::SAID_MATERIAL;
 pub fn first(records: &[Assoc], p: Probe) -> usize
     ensures { result ≡ first_of p records.now }
 {
-    let mut at: usize = 0;
-    while at < records.len() {
-        if is_hit(records[at], p) {
-            return at;
-        }
-        at += 1;
-    }
-    at
+    records
+        .iter()
+        .position(|a| is_hit(*a, p))
+        .unwrap_or(records.len())
 }
 
 // The first record that `p` looks for, by value, or a blank one.
@@ -32,9 +28,10 @@ pub fn lookup(records: &[Assoc], p: Probe) -> Found
 {
     let at = first(records, p);
     if at < records.len() {
-        return found_at(at, records[at]);
+        found_at(at, records[at])
+    } else {
+        missed_at(at)
     }
-    missed_at(at)
 }
 
 // The clock goes to `t` for the first `used` records: record i has the 64 octets of `material` at 64 * i.
@@ -42,10 +39,8 @@ pub fn roll(records: &mut [Assoc], used: usize, half: u64, t: u64, material: &[u
     requires { RollFit used half t records.old (length material.now) }
     ensures { records.new ≡ rolled_to half t material.now 0 used records.old }
 {
-    let mut i: usize = 0;
-    while i < used {
-        records[i] = rolled(records[i], half, t, material, i * SAID_MATERIAL);
-        i += 1;
+    for (i, a) in records[..used].iter_mut().enumerate() {
+        *a = rolled(*a, half, t, material, i * SAID_MATERIAL);
     }
 }
 
@@ -62,9 +57,7 @@ pub fn store(
     requires { StoreFit at count half clock (length records.old) (length material.now) }
     ensures { records.new ≡ stored_at at half clock material.now l count records.old }
 {
-    let mut i: usize = 0;
-    while i < count {
-        records[at + i] = listed(l, i, half, clock, material, i * SAID_MATERIAL);
-        i += 1;
+    for (i, a) in records[at..at + count].iter_mut().enumerate() {
+        *a = listed(l, i, half, clock, material, i * SAID_MATERIAL);
     }
 }

@@ -1,13 +1,16 @@
 -- Laws of `specs/Octets.antt`, for any width.
 use mathlib.Core.Path.{◌≡◌, refl, sym, ◌∙◌, ap}
-use mathlib.Core.Bool.{true, false}
-use Prim.Native.Nat.{ℕ, zero, suc, ◌+◌, ◌-◌, ◌<◌, ◌≤◌}
+use mathlib.Core.Bool.{Bool, true, false}
+use Prim.Native.Nat.{ℕ, zero, suc, ◌+◌, ◌-◌, ◌<◌, ◌≤◌, min}
 use mathlib.Core.List.{List, [], ◌∷◌, ◌++◌}
 use native.Mathlib.Numerals.{add-one}
 use native.Mathlib.Omega.{arith}
 use lib.ListN.{length, take, drop, get_or, set, replicate, length-append, length-drop, get_or-append, drop_of_length-le}
 use lib.Seq.{take-suc, set_at, append_snoc, length-take-le, get_or-drop, get_or-take, get_or-append-add, drop-cons}
-use borrow.Author.Tests.{eq-eqb, ne_eqb}
+use lib.Dec.{eqb, leb, ltb}
+use Rattle.std.specs.List.{list_all}
+use Rattle.std.proofs.lemmas.Grind.{same_number_lists}
+use borrow.Author.Tests.{eq-eqb, ne_eqb, leb-true, leb-false, ltb-true, ltb-false}
 use Rattle.key_traffic.specs.Octets.{padded, octets_value, all_zero, zero_past_of, overlay}
 
 -- ---- 16 octets from a slice
@@ -54,21 +57,36 @@ module _ (m : List ℕ) (at w i : ℕ) (small : i < 16) where
   unfolding octets_value
   octet_past_end over = padded_out (take w (drop at m)) i small (simp (lib.ListN.length-take, length-drop) (omega arith))
 
--- ---- a list copied octet by octet over zeros
-pub copied_none : (l : List ℕ) (n : ℕ) → replicate n 0 ≡ take 0 l ++ replicate (n - 0) 0
-copied_none l n =
-    let e : n ≡ n - 0 = omega arith in
-    ap (λ (k : ℕ). replicate k 0) e
-
-pub copied_more : (l : List ℕ) (n i : ℕ) → length l ≡ n → i < n → set (take i l ++ replicate (n - i) 0) i (get_or l i 0) ≡ take (i + 1) l ++ replicate (n - (i + 1)) 0
-copied_more l n i e small =
-    let left : n - i ≡ suc (n - (i + 1)) = omega arith in
-    let front : length (take i l) ≡ i = length-take-le i l (omega arith) in
-    let inside : i < length l = omega arith in
-    ap (λ (k : ℕ). set (take i l ++ replicate k 0) i (get_or l i 0)) left
-    ∙ set_at (take i l) 0 (replicate (n - (i + 1)) 0) (get_or l i 0) i front
-    ∙ sym (append_snoc (take i l) (get_or l i 0) (replicate (n - (i + 1)) 0))
-    ∙ rw (add-one i, take-suc l i 0)
+-- the octets from a place, put over zeros: as many as there are, as asked for and as there is room for
+pub octets_put : (m : List ℕ) (at w start n : ℕ) (copied : List ℕ) → start ≡ min at (length m) → n ≡ min (min w 16) (length m - start)
+    → copied ≡ take n (drop start m) → copied ++ drop n (replicate 16 0) ≡ octets_value m at w
+octets_put m at w start n copied s e c =
+    let front : length copied ≡ n = rw c (length-take-le n (drop start m) (simp length-drop (omega arith))) in
+    let whole : length (copied ++ drop n (replicate 16 0)) ≡ 16 = simp (length-append, length-drop, front) (omega arith) in
+    same_number_lists _ _ (whole ∙ sym (octets_length m at w)) (λ i small. go front i (omega (arith, whole, small)) (ltb i n) refl)
+  where
+    go : length copied ≡ n → (i : ℕ) → i < 16 → (b : Bool) → ltb i n ≡ b → get_or (copied ++ drop n (replicate 16 0)) i 0 ≡ get_or (octets_value m at w) i 0
+    go front i small true t =
+        let below : i < n = ltb-true i n t in
+        let same : start ≡ at = omega arith in
+        get_or-append copied (drop n (replicate 16 0)) 0 i (omega arith)
+        ∙ ap (λ (l : List ℕ). get_or l i 0) c
+        ∙ get_or-take n (drop start m) i 0 below
+        ∙ get_or-drop start m i 0
+        ∙ ap (λ (k : ℕ). get_or m (k + i) 0) same
+        ∙ sym (octet_in m at w i small (omega arith) (omega arith))
+    go front i small false t =
+        let over : n ≤ i = ltb-false i n t in
+        let back : i ≡ length copied + (i - n) = omega arith in
+        ap (λ (k : ℕ). get_or (copied ++ drop n (replicate 16 0)) k 0) back
+        ∙ get_or-append-add copied (drop n (replicate 16 0)) (i - n) 0
+        ∙ get_or-drop n (replicate 16 0) (i - n) 0
+        ∙ zeros_at 16 (n + (i - n))
+        ∙ sym (past (leb w i) refl)
+      where
+        past : (b : Bool) → leb w i ≡ b → get_or (octets_value m at w) i 0 ≡ 0
+        past true p = octet_past_width m at w i small (leb-true w i p)
+        past false p = octet_past_end m at w i small (omega (arith, leb-false w i p, ltb-false i n t))
 
 -- ---- zeros past a width
 pub zero_end : (octets : List ℕ) (i : ℕ) → length octets ≤ i → all_zero (drop i octets) ≡ true
@@ -82,6 +100,11 @@ zero_here octets i inside e = rw (drop-cons octets i 0, add-one i, e)
 pub zero_not : (octets : List ℕ) (i : ℕ) → i < length octets → (get_or octets i 0 ≡ 0 → ⊥) → all_zero (drop i octets) ≡ false
 unfolding all_zero
 zero_not octets i inside no_zero = rw (drop-cons octets i 0, ne_eqb (get_or octets i 0) 0 no_zero)
+
+pub zero_by_all : (l : List ℕ) → list_all (λ x. eqb x 0) l ≡ all_zero l
+unfolding all_zero
+zero_by_all [] = refl
+zero_by_all (x ∷ xs) = rw (zero_by_all xs) refl
 
 zero_all : (l : List ℕ) → ((i : ℕ) → i < length l → get_or l i 0 ≡ 0) → all_zero l ≡ true
 unfolding all_zero

@@ -3,8 +3,7 @@ use Rattle.std.specs.Prelude.{Bool, cond, ◌&&◌, ◌||◌, ℕ, ltb, eqb}
 use Rattle.std.proofs.Math.Option.{Option, none, some}
 use Rattle.key_traffic.specs.declared.numbers.TekNumber.{TekNumber}
 use Rattle.key_traffic.specs.declared.traffic.TrafficKey.{TrafficKey}
-use Rattle.key_traffic.specs.declared.frame.Opening.{Opening}
-use Rattle.key_traffic.specs.declared.frame.Opening.TheVariants.{ByOlder, ByNewer, ByNeither}
+use Rattle.key_traffic.specs.Opening.{Opening, ByOlder, ByNewer, ByNeither}
 use Rattle.questions.specs.declared.refusal.Refusal.TheVariants.{NoKeyForFrame}
 use Rattle.key_traffic.specs.Numbers.{same_tek_of}
 use Rattle.questions.specs.Refusal.{number_of}

@@ -3,6 +3,7 @@ pub mod Suites
 pub mod Addresses
 pub mod Octets
 pub mod Traffic
+pub mod Opening
 pub mod Frame
 pub mod Put
 pub mod Sealing

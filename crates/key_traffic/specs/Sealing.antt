@@ -5,9 +5,8 @@ use Rattle.key_traffic.specs.Octets.{overlay}
 use Rattle.key_traffic.specs.declared.numbers.TekNumber.{TekNumber}
 use Rattle.key_traffic.specs.declared.traffic.TrafficKey.{TrafficKey}
 use Rattle.key_traffic.specs.declared.sealing.SealedCall.{SealedCall}
-use Rattle.key_traffic.specs.declared.frame.Opening.{Opening}
-use Rattle.questions.specs.declared.refusal.Answer.{Answer}
-use Rattle.questions.specs.declared.refusal.Answer.TheVariants.{Done, Refused}
+use Rattle.key_traffic.specs.Opening.{Opening}
+use Rattle.questions.specs.Answer.{Answer, Done, Refused}
 use Rattle.key_traffic.specs.Frame.{opening_key_of}
 
 -- The octets of a key that go to the front of the two lent slices: as many as the suite's width

@@ -1,6 +1,7 @@
-// Key numbers of both kinds, 0 to 15. They are two types so that no function takes one for the other.
+// Key numbers of both kinds, 0 to 15. They are two types so that no function takes one for the other; each has two functions of a line, which a trait
+// over both would make longer.
 ghost use Rattle.std.specs.Prelude.{◌≡◌};
-ghost use Rattle.key_traffic.specs.Numbers.{after_of, ak_after_of, ak_in_range_of, tek_in_range_of, same_ak_of, same_tek_of};
+ghost use Rattle.key_traffic.specs.Numbers.{after_of, ak_after_of, ak_in_range_of, tek_in_range_of};
 
 // How many numbers there are, and the highest.
 pub const KEY_NUMBERS: u8 = 16;
@@ -9,12 +10,12 @@ pub const KEY_NUMBER_MAX: u8 = 15;
 
 // The number of an authorization key.
 #[repr(C)]
-#[derive(Clone, Copy)]
+#[derive(Clone, Copy, Debug, PartialEq, Eq)]
 pub struct AkNumber(pub u8);
 
 // The number of a traffic key.
 #[repr(C)]
-#[derive(Clone, Copy)]
+#[derive(Clone, Copy, Debug, PartialEq, Eq)]
 pub struct TekNumber(pub u8);
 
 // Whether an authorization key may have this number.
@@ -31,25 +32,11 @@ pub fn tek_in_range(n: TekNumber) -> bool
     n.0 <= KEY_NUMBER_MAX
 }
 
-// Whether two traffic keys have one number.
-pub fn same_tek(a: TekNumber, b: TekNumber) -> bool
-    ensures { result ≡ same_tek_of a b }
-{
-    a.0 == b.0
-}
-
 // The number of the generation `k` after the one numbered `n`.
 pub fn tek_after(n: TekNumber, k: u8) -> TekNumber
     ensures { result ≡ after_of n k }
 {
     TekNumber((n.0 % KEY_NUMBERS + k % KEY_NUMBERS) % KEY_NUMBERS)
-}
-
-// Whether two authorization keys have one number.
-pub fn same_ak(a: AkNumber, b: AkNumber) -> bool
-    ensures { result ≡ same_ak_of a b }
-{
-    a.0 == b.0
 }
 
 // The number of the authorization key `k` after the one numbered `n`.

@@ -25,10 +25,7 @@ pub const FRAMES_MAX: u64 = 18446744073709551615;
 pub fn one_more(n: u64) -> u64
     ensures { result ≡ one_more_of n }
 {
-    if FRAMES_MAX <= n {
-        return n;
-    }
-    n + 1
+    n.saturating_add(1)
 }
 
 // The first `w` octets of a key's TEK and vector go to the front of the two slices; how many is handed back.
@@ -38,10 +35,8 @@ pub fn put_key(k: TrafficKey, w: usize, tek: &mut [u8], vector: &mut [u8]) -> us
         × (tek.new ≡ overlay tek.old (key_out w k).tek)
         × (vector.new ≡ overlay vector.old (key_out w k).vector) }
 {
-    let tek_octets = k.tek;
-    let vector_octets = k.vector;
-    put(tek_octets, w, tek);
-    put(vector_octets, w, vector);
+    put(k.tek, w, tek);
+    put(k.vector, w, vector);
     w
 }
 
@@ -60,8 +55,7 @@ pub fn put_opened(
         × (vector.new ≡ overlay vector.old (opened_by_of o w older newer).vector) }
 {
     match o {
-        Opening::ByOlder => put_key(older, w, tek, vector),
-        Opening::ByNewer => put_key(newer, w, tek, vector),
-        Opening::ByNeither => 0,
+        Some(by) => put_key(by.of(older, newer), w, tek, vector),
+        None => 0,
     }
 }

@@ -16,13 +16,11 @@ pub const WIDTH_AES: usize = 16;
 pub fn width(suite: u16) -> usize
     ensures { (result ≡ width_of suite) × (result ≤ 16) }
 {
-    if suite == SUITE_DES {
-        return WIDTH_DES;
+    match suite {
+        SUITE_DES => WIDTH_DES,
+        SUITE_AES => WIDTH_AES,
+        _ => 0,
     }
-    if suite == SUITE_AES {
-        return WIDTH_AES;
-    }
-    0
 }
 
 // Whether a suite is one of the two.

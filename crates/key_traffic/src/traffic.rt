@@ -2,7 +2,7 @@
 ghost use Rattle.std.specs.Prelude.{◌≡◌, ◌+◌, ◌-◌, ◌<◌, leb};
 ghost use Rattle.key_traffic.specs.Traffic.{no_key_of, key_from_of, key_fits_of, follows, pair_fits_of};
 
-use crate::numbers::{TekNumber, same_tek, tek_after, tek_in_range};
+use crate::numbers::{TekNumber, tek_after, tek_in_range};
 use crate::octets::{KEY_OCTETS, octets, zero_past};
 use questions::limits::TEK_LIFE_MAX;
 
@@ -25,12 +25,11 @@ pub struct TrafficKey {
 pub fn no_key() -> TrafficKey
     ensures { result ≡ no_key_of }
 {
-    let zeros = [0u8; KEY_OCTETS];
     TrafficKey {
         number: TekNumber(0),
         deadline: 0,
-        tek: zeros,
-        vector: zeros,
+        tek: [0u8; KEY_OCTETS],
+        vector: [0u8; KEY_OCTETS],
     }
 }
 
@@ -39,13 +38,11 @@ pub fn key_from(m: &[u8], at: usize, w: usize, number: TekNumber, deadline: u64)
     requires { at + 16 < 18446744073709551616 }
     ensures { result ≡ key_from_of m.now at w number deadline }
 {
-    let tek = octets(m, at, w);
-    let vector = octets(m, at + KEY_OCTETS, w);
     TrafficKey {
-        number: number,
-        deadline: deadline,
-        tek: tek,
-        vector: vector,
+        number,
+        deadline,
+        tek: octets(m, at, w),
+        vector: octets(m, at + KEY_OCTETS, w),
     }
 }
 
@@ -53,16 +50,14 @@ pub fn key_from(m: &[u8], at: usize, w: usize, number: TekNumber, deadline: u64)
 pub fn key_fits(k: TrafficKey, w: usize) -> bool
     ensures { result ≡ key_fits_of w k }
 {
-    let tek = k.tek;
-    let vector = k.vector;
-    tek_in_range(k.number) & zero_past(tek, w) & zero_past(vector, w)
+    tek_in_range(k.number) & zero_past(k.tek, w) & zero_past(k.vector, w)
 }
 
 // Whether `newer` has the number after that of `older`.
 pub fn is_next(older: TrafficKey, newer: TrafficKey) -> bool
     ensures { result ≡ follows older newer }
 {
-    same_tek(newer.number, tek_after(older.number, 1))
+    newer.number == tek_after(older.number, 1)
 }
 
 // The limits of a pair that an end holds at `clock`.
@@ -80,18 +75,12 @@ pub fn pair_fits(older: TrafficKey, newer: TrafficKey, w: usize, clock: u64) -> 
 pub fn difference(a: u64, b: u64) -> u64
     ensures { result ≡ a - b }
 {
-    if a < b {
-        return 0;
-    }
-    a - b
+    a.saturating_sub(b)
 }
 
 // Whether a second is at most `ahead` after `clock`; the sum is not formed, so it cannot wrap.
 pub fn is_within(at: u64, clock: u64, ahead: u64) -> bool
     ensures { result ≡ leb at (clock + ahead) }
 {
-    if at <= clock {
-        return true;
-    }
-    at - clock <= ahead
+    at.saturating_sub(clock) <= ahead
 }

@@ -1,8 +1,10 @@
 -- The 16 octets that hold a key, each by its place, for a key of any width.
-use Prim.Native.Nat.{ℕ, zero, suc, ◌≤◌}
+use Prim.Native.Nat.{ℕ, zero, suc, ◌+◌, ◌-◌, ◌≤◌}
 use mathlib.Core.Path.{◌≡◌, refl, sym, ◌∙◌, ap}
 use mathlib.Core.List.{List, [], ◌∷◌, ◌++◌}
-use lib.ListN.{length, get_or, take, replicate}
+use lib.ListN.{length, get_or, take, drop, replicate}
+use Rattle.std.proofs.Math.Seq.{take-append-add}
+use Rattle.std.proofs.lemmas.List.{take-replicate, drop-replicate}
 use native.Mathlib.Omega.{arith}
 use Rattle.key_traffic.specs.Octets.{padded}
 
@@ -36,3 +38,15 @@ take_places (suc n) (suc m) (x ∷ v) h = ap (λ (l : List ℕ). x ∷ l) (take_
 pub padded_places : (v : List ℕ) → padded v ≡ places 16 0 v
 unfolding padded
 padded_places v = take_places 16 16 v (omega arith)
+
+-- ---- the octets of a key that the 16 hold, and the zeros after them
+zeros_after : (v : List ℕ) (n m : ℕ) → length v ≡ n → n ≤ m → v ++ drop n (replicate m 0) ≡ take m (v ++ replicate m 0)
+zeros_after v n m e h =
+    let whole : m ≡ length v + (m - n) = omega arith in
+    ap (λ (l : List ℕ). v ++ l) (drop-replicate n m 0 ∙ sym (take-replicate (m - n) m 0 (omega arith)))
+    ∙ sym (take-append-add v (replicate m 0) (m - n))
+    ∙ ap (λ (k : ℕ). take k (v ++ replicate m 0)) (sym whole)
+
+pub padded_own : (v : List ℕ) (n : ℕ) → length v ≡ n → n ≤ 16 → v ++ drop n (replicate 16 0) ≡ padded v
+unfolding padded
+padded_own v n e h = zeros_after v n 16 e h

@@ -4,7 +4,8 @@ ghost use Rattle.message_attributes.specs.Next.{step_at, Says};
 
 use message_rules::codes::ATTRIBUTE_HEAD_OCTETS;
 
-// What stands at a place of a holder.
+// What stands at a place of a holder. It is no Option of a Result, and its reader no Iterator: `next_number`, `next_values` and `Says` of
+// specs/Next.antt, question 8's number and values, are over these three cases.
 #[derive(Clone, Copy)]
 pub enum Next {
     // An attribute: its value is the len octets from start.

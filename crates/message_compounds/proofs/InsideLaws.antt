@@ -13,8 +13,9 @@ use Rattle.message_rules.specs.Messages.{has_required}
 use Rattle.message_rules.specs.Fields.{key_octets_of, params_of, descriptor_of}
 use Rattle.message_holders.specs.declared.pass.Slot.{Slot}
 use Rattle.message_holders.specs.declared.pass.Inside.{Inside}
-use Rattle.message_compounds.specs.declared.compound.ParamsRead.{ParamsRead}
-use Rattle.message_compounds.specs.declared.compound.DescriptorRead.{DescriptorRead}
+use Rattle.message_rules.specs.declared.fields.Params.{Params}
+use Rattle.message_rules.specs.declared.fields.Descriptor.{Descriptor}
+use Rattle.message_compounds.specs.declared.compound.Read.{Read}
 use Rattle.message_holders.specs.Slots.{inside_slot_of, no_slot, noted_of}
 use Rattle.message_holders.specs.Pass.{inside_record, noted_at_of, inside_turn_of, inside_from, inside_pass}
 use Rattle.message_compounds.specs.Compounds.{params_read, descriptor_read}
@@ -113,10 +114,10 @@ module _ (v : List ℕ) (r : Inside) where
   first i = take (slot i).len (drop (slot i).start v)
 
   pub params_is : r ≡ inside_pass 13 v
-      → ◌≡◌ {A = ParamsRead} (record {
+      → ◌≡◌ {A = Read Params} (record {
         sound = r.sound;
         complete = eqb (slot 0).n 1 && eqb (slot 1).n 1 && eqb (slot 2).n 1 && eqb (slot 3).n 1;
-        params = record { number = record { 0 = get_or (first 2) 0 0 }; life = be32 (first 1); tek = key_octets_of (first 0); vector = key_octets_of (first 3) };
+        fields = record { number = record { 0 = get_or (first 2) 0 0 }; life = be32 (first 1); tek = key_octets_of (first 0); vector = key_octets_of (first 3) };
       }) (params_read v)
   unfolding has_required required_of params_of
   params_is e =
@@ -139,10 +140,10 @@ module _ (v : List ℕ) (r : Inside) where
       ) refl
 
   pub descriptor_is : r ≡ inside_pass 23 v
-      → ◌≡◌ {A = DescriptorRead} (record {
+      → ◌≡◌ {A = Read Descriptor} (record {
         sound = r.sound;
         complete = eqb (slot 0).n 1 && eqb (slot 1).n 1 && eqb (slot 2).n 1;
-        descriptor = record { said = be16 (first 0); kind = get_or (first 1) 0 0; suite = be16 (first 2) };
+        fields = record { said = be16 (first 0); kind = get_or (first 1) 0 0; suite = be16 (first 2) };
       }) (descriptor_read v)
   unfolding has_required required_of descriptor_of
   descriptor_is e =

@@ -7,8 +7,8 @@ use Rattle.message_rules.specs.Ranges.{required_of, inside_sound}
 use Rattle.message_rules.specs.Messages.{has_required}
 use Rattle.message_rules.specs.Fields.{params_of, descriptor_of, no_params_of, no_descriptor_of}
 use Rattle.message_rules.specs.Reading.{no_place_of}
-use Rattle.message_compounds.specs.declared.compound.ParamsRead.{ParamsRead}
-use Rattle.message_compounds.specs.declared.compound.DescriptorRead.{DescriptorRead}
+use Rattle.message_rules.specs.declared.fields.Descriptor.{Descriptor}
+use Rattle.message_compounds.specs.declared.compound.Read.{Read}
 use Rattle.message_compounds.specs.declared.compound.Compounds.{Compounds}
 
 -- A part of a message
@@ -20,11 +20,11 @@ unfoldable pub inside_at_of : List ℕ → List Place → ℕ → List ℕ
 inside_at_of m at i = part_of m (get_or at i no_place_of)
 
 -- ---- one compound
-abbrev pub params_read : List ℕ → ParamsRead
-params_read v = record { sound = inside_sound 13 v; complete = has_required (required_of 13) (items v); params = params_of v }
+abbrev pub params_read : List ℕ → Read Params
+params_read v = record { sound = inside_sound 13 v; complete = has_required (required_of 13) (items v); fields = params_of v }
 
-abbrev pub descriptor_read : List ℕ → DescriptorRead
-descriptor_read v = record { sound = inside_sound 23 v; complete = has_required (required_of 23) (items v); descriptor = descriptor_of v }
+abbrev pub descriptor_read : List ℕ → Read Descriptor
+descriptor_read v = record { sound = inside_sound 23 v; complete = has_required (required_of 23) (items v); fields = descriptor_of v }
 
 -- ---- a Key Reply's
 unfoldable pub in_order_value : Params → Params → Bool
@@ -33,41 +33,41 @@ in_order_value older newer = eqb newer.number.0 ((older.number.0 + 1) % 16) && l
 unfoldable pub rest_sound_of : List ℕ → ℕ → List Place → Bool
 rest_sound_of m count at = cond (leb count 2) true (inside_sound 13 (inside_at_of m at 2) && inside_sound 13 (inside_at_of m at 3))
 
-abbrev pub pair_from : ParamsRead → ParamsRead → Bool → Compounds
+abbrev pub pair_from : Read Params → Read Params → Bool → Compounds
 pair_from o n rest =
     record {
       sound = o.sound && n.sound && rest;
-      complete = o.complete && n.complete && in_order_value o.params n.params;
+      complete = o.complete && n.complete && in_order_value o.fields n.fields;
       count = 0;
       descriptors = replicate 4 no_descriptor_of;
-      older = o.params;
-      newer = n.params;
+      older = o.fields;
+      newer = n.fields;
     }
 
 unfoldable pub pair_of : List ℕ → ℕ → List Place → Compounds
 pair_of m count at = pair_from (params_read (inside_at_of m at 0)) (params_read (inside_at_of m at 1)) (rest_sound_of m count at)
 
 -- ---- an Authorization Reply's
-unfoldable pub four_complete : ℕ → DescriptorRead → DescriptorRead → DescriptorRead → DescriptorRead → Bool
+unfoldable pub four_complete : ℕ → Read Descriptor → Read Descriptor → Read Descriptor → Read Descriptor → Bool
 four_complete n v w x y =
     (leb n 0 || v.complete)
     && (leb n 1 || w.complete)
     && (leb n 2 || x.complete)
     && (leb n 3 || y.complete)
-    && (leb n 1 || not (eqb v.descriptor.said w.descriptor.said))
-    && (leb n 2 || not (eqb v.descriptor.said x.descriptor.said))
-    && (leb n 3 || not (eqb v.descriptor.said y.descriptor.said))
-    && (leb n 2 || not (eqb w.descriptor.said x.descriptor.said))
-    && (leb n 3 || not (eqb w.descriptor.said y.descriptor.said))
-    && (leb n 3 || not (eqb x.descriptor.said y.descriptor.said))
+    && (leb n 1 || not (eqb v.fields.said w.fields.said))
+    && (leb n 2 || not (eqb v.fields.said x.fields.said))
+    && (leb n 3 || not (eqb v.fields.said y.fields.said))
+    && (leb n 2 || not (eqb w.fields.said x.fields.said))
+    && (leb n 3 || not (eqb w.fields.said y.fields.said))
+    && (leb n 3 || not (eqb x.fields.said y.fields.said))
 
-abbrev pub four_from : ℕ → DescriptorRead → DescriptorRead → DescriptorRead → DescriptorRead → Compounds
+abbrev pub four_from : ℕ → Read Descriptor → Read Descriptor → Read Descriptor → Read Descriptor → Compounds
 four_from count v w x y =
     record {
       sound = v.sound && w.sound && x.sound && y.sound;
       complete = four_complete count v w x y;
       count = count;
-      descriptors = v.descriptor ∷ w.descriptor ∷ x.descriptor ∷ y.descriptor ∷ [];
+      descriptors = v.fields ∷ w.fields ∷ x.fields ∷ y.fields ∷ [];
       older = no_params_of;
       newer = no_params_of;
     }

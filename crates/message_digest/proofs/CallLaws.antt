@@ -10,7 +10,7 @@ use lib.Dec.{leb}
 use lib.ListN.{length, take, drop, length-append, length-take}
 use Rattle.digest_hmac.specs.Hmac.{hmac}
 use Rattle.digest_hmac.proofs.FillLaws.{length_hmac}
-use Rattle.questions.specs.declared.refusal.Answer.TheVariants.{Done}
+use Rattle.questions.specs.Answer.{Done}
 use Rattle.questions.specs.declared.refusal.Refusal.TheVariants.{OutOfLimits, WrongLength}
 use Rattle.questions.specs.Questions.{first_no}
 use Rattle.questions.proofs.TestLaws.{both}

@@ -9,7 +9,7 @@ use borrow.Author.Tests.{eqb-true, leb-true}
 use lib.Dec.{leb}
 use lib.ListN.{length, take, drop, length-append, length-drop, take-append-drop}
 use lib.Seq.{length-take-le}
-use Rattle.questions.specs.declared.refusal.Answer.TheVariants.{Done}
+use Rattle.questions.specs.Answer.{Done}
 use Rattle.questions.proofs.TestLaws.{both}
 use Rattle.digest_hmac.specs.Hmac.{hmac, same, holds}
 use Rattle.message_rules.specs.declared.fields.Receiver.{Receiver}

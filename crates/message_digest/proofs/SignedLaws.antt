@@ -11,8 +11,7 @@ use lib.Seq.{sets, sets-eq, take_at, drop-append_seam}
 use Rattle.digest_hmac.specs.Hmac.{hmac, filled}
 use Rattle.digest_hmac.proofs.FillLaws.{length_hmac, holds_equal}
 use Rattle.key_traffic.specs.Octets.{overlay}
-use Rattle.questions.specs.declared.refusal.Answer.{Answer}
-use Rattle.questions.specs.declared.refusal.Answer.TheVariants.{Done, Refused}
+use Rattle.questions.specs.Answer.{Answer, Done, Refused}
 use Rattle.message_rules.specs.declared.fields.Fields.{Fields}
 use Rattle.message_rules.specs.declared.fields.Place.{Place}
 use Rattle.message_rules.specs.declared.fields.Reading.{Reading}

@@ -26,26 +26,17 @@ pub fn message_key_fits(key: &[u8]) -> bool
 fn covered_up_to(p: Place) -> usize
     ensures { result ≡ covered_up_to_of p }
 {
-    if p.start < ATTRIBUTE_HEAD_OCTETS {
-        return 0;
-    }
-    p.start - ATTRIBUTE_HEAD_OCTETS
+    p.start.saturating_sub(ATTRIBUTE_HEAD_OCTETS)
 }
 
 // Whether the digest at its place in a message is the one that the key gives.
 pub fn is_digest_right(message: &[u8], p: Place, key: &[u8]) -> bool
     ensures { result ≡ digest_holds_of key.now p message.now }
 {
-    if p.len != DIGEST_OCTETS {
-        return false;
-    }
-    if message.len() < DIGEST_OCTETS {
-        return false;
-    }
-    if message.len() - DIGEST_OCTETS < p.start {
-        return false;
-    }
-    digest_holds(message, covered_up_to(p), key, p.start)
+    p.len == DIGEST_OCTETS
+        && DIGEST_OCTETS <= message.len()
+        && p.start <= message.len() - DIGEST_OCTETS
+        && digest_holds(message, covered_up_to(p), key, p.start)
 }
 
 // Works out the digest of the message of `n` octets at the front of `out` and stores it in its place, where the code carries one.

@@ -61,54 +61,22 @@ pub fn body_start() -> BodySoFar
 pub fn body_end(r: BodySoFar) -> Body
     ensures { result ≡ body_of r }
 {
-    let number = r.number;
-    let said = r.said;
-    let life = r.life;
-    let error = r.error;
-    let key = r.key;
-    let digest = r.digest;
-    let first = r.first;
-    let second = r.second;
-    let third = r.third;
-    let fourth = r.fourth;
     Body {
-        slots: [number, said, life, error, key, digest],
-        compounds: [first, second, third, fourth],
+        slots: [r.number, r.said, r.life, r.error, r.key, r.digest],
+        compounds: [r.first, r.second, r.third, r.fourth],
         count: r.count,
         last: r.last,
         sound: r.sound,
     }
 }
 
-// An attribute of type k was the last. All fields are set one by one: a copy of the whole carries its padding from turn to turn, which takes time.
+// An attribute of type k was the last.
 fn body_last(r: BodySoFar, k: u8) -> BodySoFar
     ensures { (body_of result ≡ last_is_of k (body_of r)) × (result.over ≡ r.over) }
 {
-    let number = r.number;
-    let said = r.said;
-    let life = r.life;
-    let error = r.error;
-    let key = r.key;
-    let digest = r.digest;
-    let first = r.first;
-    let second = r.second;
-    let third = r.third;
-    let fourth = r.fourth;
     BodySoFar {
-        number,
-        said,
-        life,
-        error,
-        key,
-        digest,
-        first,
-        second,
-        third,
-        fourth,
-        count: r.count,
-        last: k as usize,
-        sound: r.sound,
-        over: r.over,
+        last: usize::from(k),
+        ..r
     }
 }
 
@@ -117,36 +85,39 @@ fn body_noted(r: BodySoFar, i: usize, start: usize, len: usize, fits: bool) -> B
     requires { i < 6 }
     ensures { (body_of result ≡ body_record (r.sound && fits) r.last (noted_at_of (body_of r).slots i start len) r.count (body_of r).compounds) × (result.over ≡ r.over) }
 {
-    let mut q = r;
-    q.sound = r.sound & fits;
-    if i == SLOT_KEY_NUMBER {
-        let u = noted(r.number, start, len);
-        q.number = u;
-        return q;
+    let sound = r.sound & fits;
+    match i {
+        SLOT_KEY_NUMBER => BodySoFar {
+            number: noted(r.number, start, len),
+            sound,
+            ..r
+        },
+        SLOT_SAID => BodySoFar {
+            said: noted(r.said, start, len),
+            sound,
+            ..r
+        },
+        SLOT_KEY_LIFETIME => BodySoFar {
+            life: noted(r.life, start, len),
+            sound,
+            ..r
+        },
+        SLOT_ERROR => BodySoFar {
+            error: noted(r.error, start, len),
+            sound,
+            ..r
+        },
+        SLOT_AUTH_KEY => BodySoFar {
+            key: noted(r.key, start, len),
+            sound,
+            ..r
+        },
+        _ => BodySoFar {
+            digest: noted(r.digest, start, len),
+            sound,
+            ..r
+        },
     }
-    if i == SLOT_SAID {
-        let u = noted(r.said, start, len);
-        q.said = u;
-        return q;
-    }
-    if i == SLOT_KEY_LIFETIME {
-        let u = noted(r.life, start, len);
-        q.life = u;
-        return q;
-    }
-    if i == SLOT_ERROR {
-        let u = noted(r.error, start, len);
-        q.error = u;
-        return q;
-    }
-    if i == SLOT_AUTH_KEY {
-        let u = noted(r.key, start, len);
-        q.key = u;
-        return q;
-    }
-    let u = noted(r.digest, start, len);
-    q.digest = u;
-    q
 }
 
 // One of the first four compounds.
@@ -154,23 +125,30 @@ fn body_kept(r: BodySoFar, start: usize, len: usize) -> BodySoFar
     requires { r.count < 4 }
     ensures { (body_of result ≡ kept_at start len (body_of r)) × (result.over ≡ r.over) }
 {
-    let mut q = r;
-    let p = Place { start, len };
-    q.count = r.count + 1;
-    if r.count == 0 {
-        q.first = p;
-        return q;
+    let place = Place { start, len };
+    let count = r.count + 1;
+    match r.count {
+        0 => BodySoFar {
+            first: place,
+            count,
+            ..r
+        },
+        1 => BodySoFar {
+            second: place,
+            count,
+            ..r
+        },
+        2 => BodySoFar {
+            third: place,
+            count,
+            ..r
+        },
+        _ => BodySoFar {
+            fourth: place,
+            count,
+            ..r
+        },
     }
-    if r.count == 1 {
-        q.second = p;
-        return q;
-    }
-    if r.count == 2 {
-        q.third = p;
-        return q;
-    }
-    q.fourth = p;
-    q
 }
 
 // A turn over message m of code h. The inside of a fifth or further compound is passed here, for question 8.
@@ -180,36 +158,30 @@ pub fn body_turn(m: &[u8], h: u8, r: BodySoFar, found: Next) -> BodySoFar
 {
     match found {
         Next::Attr { kind, start, len } => {
-            let mut q = body_last(r, kind);
+            let q = body_last(r, kind);
             let i = body_slot(h, kind);
             if SLOT_NOT_REQUIRED <= i {
                 return q;
             }
-            let end = start + len;
-            let v = &m[start..end];
+            let v = &m[start..start + len];
             if i < SLOT_COMPOUND {
-                let fits = in_range(h, kind, v);
-                return body_noted(q, i, start, len, fits);
+                return body_noted(q, i, start, len, in_range(h, kind, v));
             }
             if q.count < COMPOUNDS_KEPT {
                 return body_kept(q, start, len);
             }
-            let later = pass_inside(v, kind);
-            q.sound = q.sound & later.sound;
-            q.count = COMPOUNDS_MORE;
-            q
+            BodySoFar {
+                sound: q.sound & pass_inside(v, kind).sound,
+                count: COMPOUNDS_MORE,
+                ..q
+            }
         }
-        Next::Cut => {
-            let mut q = r;
-            q.sound = false;
-            q.last = NO_LAST_TYPE;
-            q.over = true;
-            q
-        }
-        Next::End => {
-            let mut q = r;
-            q.over = true;
-            q
-        }
+        Next::Cut => BodySoFar {
+            sound: false,
+            last: NO_LAST_TYPE,
+            over: true,
+            ..r
+        },
+        Next::End => BodySoFar { over: true, ..r },
     }
 }

@@ -39,12 +39,8 @@ pub fn inside_start() -> InsideSoFar
 pub fn inside_end(r: InsideSoFar) -> Inside
     ensures { result ≡ inside_of r }
 {
-    let first = r.first;
-    let second = r.second;
-    let third = r.third;
-    let fourth = r.fourth;
     Inside {
-        slots: [first, second, third, fourth],
+        slots: [r.first, r.second, r.third, r.fourth],
         sound: r.sound,
     }
 }
@@ -54,26 +50,29 @@ fn inside_noted(r: InsideSoFar, i: usize, start: usize, len: usize, fits: bool) 
     requires { i < 4 }
     ensures { (inside_of result ≡ inside_record (r.sound && fits) (noted_at_of (inside_of r).slots i start len)) × (result.over ≡ r.over) }
 {
-    let mut q = r;
-    q.sound = r.sound & fits;
-    if i == 0 {
-        let u = noted(r.first, start, len);
-        q.first = u;
-        return q;
+    let sound = r.sound & fits;
+    match i {
+        0 => InsideSoFar {
+            first: noted(r.first, start, len),
+            sound,
+            ..r
+        },
+        1 => InsideSoFar {
+            second: noted(r.second, start, len),
+            sound,
+            ..r
+        },
+        2 => InsideSoFar {
+            third: noted(r.third, start, len),
+            sound,
+            ..r
+        },
+        _ => InsideSoFar {
+            fourth: noted(r.fourth, start, len),
+            sound,
+            ..r
+        },
     }
-    if i == 1 {
-        let u = noted(r.second, start, len);
-        q.second = u;
-        return q;
-    }
-    if i == 2 {
-        let u = noted(r.third, start, len);
-        q.third = u;
-        return q;
-    }
-    let u = noted(r.fourth, start, len);
-    q.fourth = u;
-    q
 }
 
 // A turn over the inside s of a compound of type h.
@@ -87,20 +86,14 @@ pub fn inside_turn(s: &[u8], h: u8, r: InsideSoFar, found: Next) -> InsideSoFar
             if INSIDE_NOT_REQUIRED <= i {
                 return r;
             }
-            let end = start + len;
-            let fits = in_range(h, kind, &s[start..end]);
+            let fits = in_range(h, kind, &s[start..start + len]);
             inside_noted(r, i, start, len, fits)
         }
-        Next::Cut => {
-            let mut q = r;
-            q.sound = false;
-            q.over = true;
-            q
-        }
-        Next::End => {
-            let mut q = r;
-            q.over = true;
-            q
-        }
+        Next::Cut => InsideSoFar {
+            sound: false,
+            over: true,
+            ..r
+        },
+        Next::End => InsideSoFar { over: true, ..r },
     }
 }

@@ -53,16 +53,13 @@ pub fn noted(t: Slot, start: usize, len: usize) -> Slot
     ensures { result ≡ noted_of t start len }
 {
     if t.n == 0 {
-        return Slot {
+        Slot {
             n: ONCE,
             start,
             len,
-        };
-    }
-    Slot {
-        n: REPEATED,
-        start: t.start,
-        len: t.len,
+        }
+    } else {
+        Slot { n: REPEATED, ..t }
     }
 }
 

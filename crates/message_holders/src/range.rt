@@ -63,9 +63,10 @@ fn longest_life(h: u8) -> u64
     ensures { result ≡ longest_life_of h }
 {
     if h == TYPE_TEK_PARAMETERS {
-        return TEK_LIFE_MAX;
+        TEK_LIFE_MAX
+    } else {
+        AK_REPLY_LIFE_MAX
     }
-    AK_REPLY_LIFE_MAX
 }
 
 // Whether a value has the length and the range of its type.

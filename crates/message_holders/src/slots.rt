@@ -1,4 +1,5 @@
-// Slots and counts of a pass by name: which slot a required type fills, in a body and inside a compound.
+// Slots and counts of a pass by name: which slot a required type fills, in a body and inside a compound. They are numbers and no enum, since they are
+// places of an array, and a count up to 2, as specs/Slots.antt has them.
 
 // Slots of a body, and how many there are.
 pub const SLOT_KEY_NUMBER: usize = 0;

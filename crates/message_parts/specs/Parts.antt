@@ -1,5 +1,5 @@
 -- The parts of a message that the writer's functions write, and their lengths (document 01, "Messages").
-use Rattle.std.specs.Prelude.{ℕ, ◌≤◌, ◌≡◌, Bool, true, false, cond, List, [], ◌∷◌, length, eqb}
+use Rattle.std.specs.Prelude.{ℕ, ◌≤◌, ◌≡◌, true, cond, List, [], ◌∷◌, length, eqb}
 use Rattle.key_traffic.specs.declared.numbers.AkNumber.{AkNumber}
 use Rattle.message_rules.specs.declared.fields.Params.{Params}
 use Rattle.message_rules.specs.declared.fields.Descriptor.{Descriptor}
@@ -13,10 +13,9 @@ use Rattle.message_rules.specs.Writing.{params_items_of, descriptor_items_of, de
 abbrev pub params_item : Params → Item
 params_item p = attr 13 (octets (params_items_of p))
 
--- An SA-Descriptor, or nothing
-abbrev pub descriptor_if : Bool → Descriptor → List Item
-descriptor_if true d = attr 23 (octets (descriptor_items_of d)) ∷ []
-descriptor_if false d = []
+-- An SA-Descriptor
+abbrev pub descriptor_item : Descriptor → Item
+descriptor_item d = attr 23 (octets (descriptor_items_of d))
 
 -- The head of a message, which is put apart from the attributes: Code, Identifier, and Length of two octets, how many octets the attributes have
 abbrev pub head_octets_of : ℕ → ℕ → ℕ → List ℕ

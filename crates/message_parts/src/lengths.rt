@@ -16,12 +16,10 @@ use questions::limits::SAIDS_MAX;
 // Octets inside TEK-Parameters beside the octets of TEK and vector.
 const PARAMS_OTHER_OCTETS: usize = 17;
 
-// Octets inside an SA-Descriptor, of a whole one, and of four.
+// Octets inside an SA-Descriptor, and of a whole one.
 pub const DESCRIPTOR_INSIDE_OCTETS: usize = 14;
 
 const DESCRIPTOR_OCTETS: usize = 17;
-
-const DESCRIPTORS_OCTETS: usize = 68;
 
 // Octets of the attributes of each message that has always as many.
 const AUTHORIZATION_REQUEST_BODY_OCTETS: usize = 5;
@@ -45,10 +43,7 @@ const KEY_REPLY_OTHER_OCTETS: usize = 38;
 pub fn own_len(width: usize) -> usize
     ensures { result ≡ min width 16 }
 {
-    if width < KEY_OCTETS {
-        return width;
-    }
-    KEY_OCTETS
+    width.min(KEY_OCTETS)
 }
 
 // The inside of TEK-Parameters.
@@ -62,10 +57,7 @@ pub fn params_len(p: Params) -> usize
 fn descriptors_len(n: usize, ds: [Descriptor; SAIDS_MAX]) -> usize
     ensures { (result ≡ length (octets (descriptors_items (take n ds)))) × (result ≤ 68) }
 {
-    if n < SAIDS_MAX {
-        return DESCRIPTOR_OCTETS * n;
-    }
-    DESCRIPTORS_OCTETS
+    DESCRIPTOR_OCTETS * n.min(SAIDS_MAX)
 }
 
 // The attributes of a message.
@@ -74,34 +66,21 @@ pub fn body_len(f: Fields, key: &[u8]) -> usize
     ensures body_length { BodyLength f key.now result }
     ensures upper_bound { result ≤ 1490 }
 {
-    if f.code == CODE_AUTHORIZATION_REQUEST {
-        return AUTHORIZATION_REQUEST_BODY_OCTETS;
+    match f.code {
+        CODE_AUTHORIZATION_REQUEST => AUTHORIZATION_REQUEST_BODY_OCTETS,
+        CODE_AUTHORIZATION_REPLY => {
+            ATTRIBUTE_HEAD_OCTETS
+                + key.len()
+                + LIFE_AND_NUMBER_OCTETS
+                + descriptors_len(f.count, f.descriptors)
+        }
+        CODE_AUTHORIZATION_REJECT => AUTHORIZATION_REJECT_BODY_OCTETS,
+        CODE_KEY_REQUEST => KEY_REQUEST_BODY_OCTETS,
+        CODE_KEY_REPLY => KEY_REPLY_OTHER_OCTETS + params_len(f.older) + params_len(f.newer),
+        CODE_KEY_REJECT => KEY_REJECT_BODY_OCTETS,
+        CODE_AUTHORIZATION_INVALID => AUTHORIZATION_INVALID_BODY_OCTETS,
+        CODE_TEK_INVALID => TEK_INVALID_BODY_OCTETS,
+        // Authentication Information has none.
+        _ => 0,
     }
-    if f.code == CODE_AUTHORIZATION_REPLY {
-        let ds = f.descriptors;
-        return ATTRIBUTE_HEAD_OCTETS
-            + key.len()
-            + LIFE_AND_NUMBER_OCTETS
-            + descriptors_len(f.count, ds);
-    }
-    if f.code == CODE_AUTHORIZATION_REJECT {
-        return AUTHORIZATION_REJECT_BODY_OCTETS;
-    }
-    if f.code == CODE_KEY_REQUEST {
-        return KEY_REQUEST_BODY_OCTETS;
-    }
-    if f.code == CODE_KEY_REPLY {
-        return KEY_REPLY_OTHER_OCTETS + params_len(f.older) + params_len(f.newer);
-    }
-    if f.code == CODE_KEY_REJECT {
-        return KEY_REJECT_BODY_OCTETS;
-    }
-    if f.code == CODE_AUTHORIZATION_INVALID {
-        return AUTHORIZATION_INVALID_BODY_OCTETS;
-    }
-    if f.code == CODE_TEK_INVALID {
-        return TEK_INVALID_BODY_OCTETS;
-    }
-    // Authentication Information has none.
-    0
 }

@@ -6,7 +6,7 @@ ghost use Rattle.message_rules.specs.Attributes.{attr, two, four};
 ghost use Rattle.message_rules.specs.Writing.{own_octets_of, params_items_of, descriptors_items};
 ghost use Rattle.key_traffic.specs.Put.{Put};
 ghost use Rattle.message_parts.specs.Put.{Wrote};
-ghost use Rattle.message_parts.specs.Parts.{params_item, descriptor_if};
+ghost use Rattle.message_parts.specs.Parts.{params_item, descriptor_item};
 
 use crate::lengths::{DESCRIPTOR_INSIDE_OCTETS, own_len, params_len};
 use message_rules::codes::{
@@ -16,20 +16,37 @@ use message_rules::codes::{
 use message_rules::fields::{Descriptor, KeyOctets, Params};
 use questions::limits::SAIDS_MAX;
 
+// How many numbers two octets hold, and four.
+const TWO_OCTETS: usize = 1 << 16;
+
+const FOUR_OCTETS: u64 = 1 << 32;
+
 // All octets of `v` from a place on; the place after them is handed back.
 pub fn put_octets(out: &mut [u8], at: usize, v: &[u8]) -> usize
     requires { at ≤ 4096 }
     ensures { Put out.old at v.now result out.new }
 {
-    let mut i: usize = 0;
-    while i < v.len() {
+    for (i, x) in v.iter().enumerate() {
         let place = at + i;
         if place < out.len() {
-            out[place] = v[i];
+            out[place] = *x;
         }
-        i += 1;
     }
-    at + i
+    at + v.len()
+}
+
+// The two lower octets of a number, the higher first.
+pub fn two_octets(n: usize) -> [u8; 2]
+    ensures { result ≡ two n }
+{
+    ((n % TWO_OCTETS) as u16).to_be_bytes()
+}
+
+// The four lower octets of a number, the highest first.
+pub fn four_octets(n: u64) -> [u8; 4]
+    ensures { result ≡ four n }
+{
+    ((n % FOUR_OCTETS) as u32).to_be_bytes()
 }
 
 // The type and the length of an attribute, the higher octet first.
@@ -37,10 +54,8 @@ pub fn put_head(out: &mut [u8], len: usize, kind: u8, n: usize) -> usize
     requires { len + 4 ≤ 4096 }
     ensures { (out.new ≡ sets out.old (4 + len) (kind ∷ two n)) × (result ≡ len + 3) }
 {
-    let high = (n / 256 % 256) as u8;
-    let low = (n % 256) as u8;
-    let head = [kind, high, low];
-    put_octets(out, HEAD_OCTETS + len, &head);
+    let [high, low] = two_octets(n);
+    put_octets(out, HEAD_OCTETS + len, &[kind, high, low]);
     len + ATTRIBUTE_HEAD_OCTETS
 }
 
@@ -61,8 +76,7 @@ pub fn put_one(out: &mut [u8], len: usize, kind: u8, x: u8) -> usize
     ensures wrote { Wrote out.old len (attr kind (x ∷ []) ∷ []) result out.new }
     ensures value { result ≡ len + 4 }
 {
-    let v = [x];
-    put_attr(out, len, kind, &v)
+    put_attr(out, len, kind, &[x])
 }
 
 // The same of two octets, the higher first.
@@ -71,10 +85,7 @@ pub fn put_two(out: &mut [u8], len: usize, kind: u8, x: u16) -> usize
     ensures wrote { Wrote out.old len (attr kind (two x) ∷ []) result out.new }
     ensures value { result ≡ len + 5 }
 {
-    let high = (x / 256 % 256) as u8;
-    let low = (x % 256) as u8;
-    let v = [high, low];
-    put_attr(out, len, kind, &v)
+    put_attr(out, len, kind, &two_octets(usize::from(x)))
 }
 
 // The same of four octets, the highest first.
@@ -83,12 +94,7 @@ pub fn put_four(out: &mut [u8], len: usize, kind: u8, x: u64) -> usize
     ensures wrote { Wrote out.old len (attr kind (four x) ∷ []) result out.new }
     ensures value { result ≡ len + 7 }
 {
-    let first = (x / 16777216 % 256) as u8;
-    let second = (x / 65536 % 256) as u8;
-    let third = (x / 256 % 256) as u8;
-    let fourth = (x % 256) as u8;
-    let v = [first, second, third, fourth];
-    put_attr(out, len, kind, &v)
+    put_attr(out, len, kind, &four_octets(x))
 }
 
 // A TEK or a vector.
@@ -97,9 +103,8 @@ pub fn put_key(out: &mut [u8], len: usize, kind: u8, k: KeyOctets) -> usize
     ensures wrote { Wrote out.old len (attr kind (own_octets_of k) ∷ []) result out.new }
     ensures value { result ≡ len + 3 + min k.width 16 }
 {
-    let o = k.octets;
     let n = own_len(k.width);
-    put_attr(out, len, kind, &o[..n])
+    put_attr(out, len, kind, &k.octets[..n])
 }
 
 // The inside of TEK-Parameters.
@@ -108,12 +113,10 @@ fn put_inside(out: &mut [u8], len: usize, p: Params) -> usize
     ensures wrote { Wrote out.old len (params_items_of p) result out.new }
     ensures upper_bound { result ≤ len + 49 }
 {
-    let tek = p.tek;
-    let vector = p.vector;
-    let a = put_key(out, len, TYPE_TEK, tek);
+    let a = put_key(out, len, TYPE_TEK, p.tek);
     let b = put_four(out, a, TYPE_KEY_LIFETIME, p.life);
     let c = put_one(out, b, TYPE_KEY_NUMBER, p.number.0);
-    put_key(out, c, TYPE_VECTOR, vector)
+    put_key(out, c, TYPE_VECTOR, p.vector)
 }
 
 // TEK-Parameters. The length so far goes on through its inside.
@@ -126,15 +129,12 @@ pub fn put_params(out: &mut [u8], len: usize, p: Params) -> usize
     put_inside(out, inside, p)
 }
 
-// An SA-Descriptor, or nothing.
-fn put_descriptor(out: &mut [u8], len: usize, on: bool, d: Descriptor) -> usize
+// An SA-Descriptor.
+fn put_descriptor(out: &mut [u8], len: usize, d: Descriptor) -> usize
     requires { len + 100 ≤ 4096 }
-    ensures wrote { Wrote out.old len (descriptor_if on d) result out.new }
-    ensures upper_bound { result ≤ len + 17 }
+    ensures wrote { Wrote out.old len (descriptor_item d ∷ []) result out.new }
+    ensures upper_bound { result ≡ len + 17 }
 {
-    if !on {
-        return len;
-    }
     let a = put_head(out, len, TYPE_SA_DESCRIPTOR, DESCRIPTOR_INSIDE_OCTETS);
     let b = put_two(out, a, TYPE_SAID, d.said);
     let c = put_one(out, b, TYPE_SA_TYPE, d.kind);
@@ -147,12 +147,11 @@ pub fn put_descriptors(out: &mut [u8], len: usize, n: usize, ds: [Descriptor; SA
     ensures wrote { Wrote out.old len (descriptors_items (take n ds)) result out.new }
     ensures upper_bound { result ≤ len + 68 }
 {
-    let first = ds[0];
-    let second = ds[1];
-    let third = ds[2];
-    let fourth = ds[3];
-    let a = put_descriptor(out, len, 0 < n, first);
-    let b = put_descriptor(out, a, 1 < n, second);
-    let c = put_descriptor(out, b, 2 < n, third);
-    put_descriptor(out, c, 3 < n, fourth)
+    let mut end = len;
+    for (i, d) in ds.iter().enumerate() {
+        if i < n {
+            end = put_descriptor(out, end, *d);
+        }
+    }
+    end
 }

@@ -9,20 +9,22 @@ use lib.Dec.{leb}
 use native.Mathlib.Omega.{arith}
 use borrow.Author.Tests.{leb-true}
 use Rattle.questions.specs.declared.refusal.Refusal.TheVariants.{CutMessage, CodeNotReceived, BadAttribute, WrongAttributes}
-use Rattle.questions.specs.declared.refusal.Answer.TheVariants.{Done}
+use Rattle.std.specs.Prelude.{Result}
+use Rattle.questions.specs.declared.refusal.Refusal.{Refusal}
+use Rattle.questions.specs.Answer.{Answer, Done, Refused}
 use Rattle.questions.proofs.TestLaws.{both}
 use Rattle.message_rules.specs.declared.fields.Receiver.{Receiver}
 use Rattle.message_rules.specs.declared.fields.Reading.{Reading}
 use Rattle.message_rules.specs.Attributes.{items}
 use Rattle.message_rules.specs.Ranges.{sound}
-use Rattle.message_rules.specs.Messages.{code_of, length_of, body_of, is_whole, receives, complete, question8, question9, message_questions, message_answer}
+use Rattle.message_rules.specs.Messages.{code_of, length_of, body_of, is_whole, receives, complete, question8, question9, message_questions, message_answer, reader_answer_of}
 use Rattle.message_rules.specs.Fields.{fields_of}
-use Rattle.message_rules.specs.Reading.{place_of, taken_of, read_of}
+use Rattle.message_rules.specs.Reading.{place_of, taken_of, reading_for, read_of, reader_of}
 use Rattle.message_holders.specs.declared.pass.Body.{Body}
 use Rattle.message_compounds.specs.declared.compound.Compounds.{Compounds}
 use Rattle.message_holders.specs.Pass.{body_pass}
 use Rattle.message_compounds.specs.Compounds.{compounds_of}
-use Rattle.message_reader.specs.Taken.{complete_in, taken_from, refused_reading}
+use Rattle.message_reader.specs.Taken.{complete_in, taken_from, refused_reading, as_asked, handed_back}
 use Rattle.message_reader.proofs.CodeLaws.{Code, received_code}
 use Rattle.message_reader.proofs.SoundLaws.{compounds_in_of, sound_code}
 use Rattle.message_reader.proofs.CompleteLaws.{whole_code}
@@ -105,19 +107,13 @@ module _ (e : Receiver) (s : List ℕ) (q6 : is_whole s ≡ true) {c n : ℕ} (e
             let q : b.sound && k.sound ≡ true = rw (t, t') refl in
             sym sound_is ∙ q
 
-        pub wrong_body : complete_in c b ≡ false → refused_reading WrongAttributes ≡ read_of e s
-        wrong_body f =
-            let q : complete_in c b && k.complete ≡ false = rw f refl in
-            no_9 e s q6 received all_sound (sym whole_is ∙ q)
+        pub wrong : complete_in c b && k.complete ≡ false → refused_reading WrongAttributes ≡ read_of e s
+        wrong q = no_9 e s q6 received all_sound (sym whole_is ∙ q)
 
-        pub wrong_inside : complete_in c b ≡ true → k.complete ≡ false → refused_reading WrongAttributes ≡ read_of e s
-        wrong_inside complete f =
-            let q : complete_in c b && k.complete ≡ false = rw (complete, f) refl in
-            no_9 e s q6 received all_sound (sym whole_is ∙ q)
-
-        pub taken_is : complete_in c b ≡ true → k.complete ≡ true → taken_from m b k ≡ read_of e s
+        pub taken_is : complete_in c b && k.complete ≡ true → taken_from m b k ≡ read_of e s
         unfolding taken_of
-        taken_is complete whole =
+        taken_is q =
+            let complete = (both (complete_in c b) k.complete q).0 in
             let first : c ≡ get_or m 0 0 = ec ∙ sym (get_or-take (4 + n) s 0 0 (omega arith)) in
             let second : get_or m 1 0 ≡ get_or s 1 0 = get_or-take (4 + n) s 1 0 (omega arith) in
             let complete' : complete_in c (body_pass c m) ≡ true = ap (complete_in c) (sym eb) ∙ complete in
@@ -128,5 +124,19 @@ module _ (e : Receiver) (s : List ℕ) (q6 : is_whole s ≡ true) {c n : ℕ} (e
               digest = place_of c 11 (items (drop 4 m));
             }) (taken_of s) = rw (ec, body, second) refl in
             let there : taken_from m b k ≡ taken_of s = rw (ek, eb) (taken_code m code first complete' ∙ here) in
-            let q : complete_in c b && k.complete ≡ true = rw (complete, whole) refl in
             there ∙ no_none e s q6 received all_sound (sym whole_is ∙ q)
+
+-- ---- what is handed back of a reading, from its questions one after the other
+module _ (s : List ℕ) where
+  handed_reading : (a : Answer) (r : Result Reading Refusal) → r ≡ as_asked (reading_for a s) → handed_back r ≡ reading_for a s
+  unfolding taken_of
+  handed_reading Done r q = ap handed_back q
+  handed_reading (Refused no') r q = ap handed_back q
+
+  pub handed_read : (e : Receiver) (r : Result Reading Refusal) → r ≡ as_asked (read_of e s) → handed_back r ≡ read_of e s
+  unfolding read_of
+  handed_read e r = handed_reading (message_answer e s) r
+
+  pub handed_reader : (e : Receiver) (r : Result Reading Refusal) → r ≡ as_asked (reader_of e s) → handed_back r ≡ reader_of e s
+  unfolding reader_of
+  handed_reader e r = handed_reading (reader_answer_of e s) r

@@ -6,7 +6,7 @@ use mathlib.Core.Bool.{Bool, true, false, ◌&&◌, cond}
 use lib.ListN.{length, get_or, take, drop, replicate}
 use lib.Dec.{leb, eqb}
 use native.Mathlib.Omega.{arith}
-use Rattle.questions.specs.declared.refusal.Answer.TheVariants.{Done}
+use Rattle.questions.specs.Answer.{Done}
 use Rattle.key_traffic.specs.Octets.{padded}
 use Rattle.questions.proofs.TestLaws.{both}
 use Rattle.message_rules.specs.declared.fields.Place.{Place}

@@ -1,7 +1,7 @@
 -- What the reader answers from the passes. `proofs/` joins each to the definition of crate `message_rules`.
-use Rattle.std.specs.Prelude.{ℕ, List, Bool, true, ◌&&◌, ◌||◌, cond, get_or, take, drop, leb, eqb}
+use Rattle.std.specs.Prelude.{ℕ, List, Bool, Result, Ok, Err, true, ◌&&◌, ◌||◌, cond, get_or, take, drop, leb, eqb}
 use Rattle.questions.specs.declared.refusal.Refusal.{Refusal}
-use Rattle.questions.specs.declared.refusal.Answer.TheVariants.{Done, Refused}
+use Rattle.questions.specs.Answer.{Answer, Done, Refused}
 use Rattle.message_rules.specs.declared.fields.Place.{Place}
 use Rattle.message_rules.specs.declared.fields.Reading.{Reading}
 use Rattle.message_rules.specs.Attributes.{be16, be32}
@@ -61,3 +61,16 @@ taken_from m b k =
 
 abbrev pub refused_reading : Refusal → Reading
 refused_reading r = record { answer = Refused r; fields = no_fields; key = no_place_of; digest = no_place_of }
+
+-- ---- a reading as questions that are asked one after the other give it: the reading where all are met, else the refusal of the first that is not
+abbrev pub asked_as : Answer → Reading → Result Reading Refusal
+asked_as Done r = Ok r
+asked_as (Refused refusal) r = Err refusal
+
+abbrev pub as_asked : Reading → Result Reading Refusal
+as_asked r = asked_as r.answer r
+
+-- and back: what a refusal hands back has nothing else in it
+abbrev pub handed_back : Result Reading Refusal → Reading
+handed_back (Ok r) = r
+handed_back (Err r) = refused_reading r

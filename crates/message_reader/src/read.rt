@@ -3,7 +3,7 @@ ghost use Rattle.std.specs.Prelude.{◌≡◌, ◌≤◌};
 ghost use Rattle.message_rules.specs.declared.fields.Receiver.TheVariants.{HeadEnd, Modem};
 ghost use Rattle.message_rules.specs.Messages.{length_of, is_whole, receives, identifier_allowed};
 ghost use Rattle.message_rules.specs.Reading.{read_of, reader_of};
-ghost use Rattle.message_reader.specs.Taken.{complete_in, taken_from, refused_reading};
+ghost use Rattle.message_reader.specs.Taken.{complete_in, taken_from, refused_reading, as_asked, handed_back};
 
 use key_traffic::numbers::AkNumber;
 use message_attributes::octets::{be16_of, be32_of, octet, part};
@@ -20,7 +20,7 @@ use message_rules::codes::{
 };
 use message_rules::fields::{Fields, Place, Reading, Receiver, no_descriptors, no_params};
 use questions::limits::{SAIDS_MAX, SAIDS_MIN};
-use questions::refusal::{Answer, Refusal, is_done};
+use questions::refusal::{Refusal, ask};
 
 // Where code, Identifier and the two octets of Length stand in a message.
 const CODE_AT: usize = 0;
@@ -34,7 +34,7 @@ const LENGTH_LOW_AT: usize = 3;
 fn length_of(s: &[u8]) -> usize
     ensures { (result ≡ length_of s.now) × (result ≤ 65535) }
 {
-    (octet(s, LENGTH_HIGH_AT) as usize) * 256 + (octet(s, LENGTH_LOW_AT) as usize)
+    usize::from(u16::from_be_bytes([octet(s, LENGTH_HIGH_AT), octet(s, LENGTH_LOW_AT)]))
 }
 
 // Question 6: the head is there, Length is at most LENGTH_MAX, and as many octets follow.
@@ -49,20 +49,19 @@ fn is_whole(s: &[u8]) -> bool
 fn head_end_receives(c: u8) -> bool
     ensures { result ≡ receives HeadEnd c }
 {
-    match c {
-        CODE_AUTHORIZATION_REQUEST | CODE_KEY_REQUEST | CODE_AUTHENTICATION_INFORMATION => true,
-        _ => false,
-    }
+    matches!(
+        c,
+        CODE_AUTHORIZATION_REQUEST | CODE_KEY_REQUEST | CODE_AUTHENTICATION_INFORMATION
+    )
 }
 
 fn modem_receives(c: u8) -> bool
     ensures { result ≡ receives Modem c }
 {
-    match c {
-        CODE_AUTHORIZATION_REPLY..=CODE_AUTHORIZATION_REJECT | CODE_KEY_REPLY..=CODE_TEK_INVALID =>
-            true,
-        _ => false,
-    }
+    matches!(
+        c,
+        CODE_AUTHORIZATION_REPLY..=CODE_AUTHORIZATION_REJECT | CODE_KEY_REPLY..=CODE_TEK_INVALID
+    )
 }
 
 fn is_received(e: Receiver, c: u8) -> bool
@@ -117,7 +116,7 @@ fn refused(r: Refusal) -> Reading
     };
     let nowhere = Place { start: 0, len: 0 };
     Reading {
-        answer: Answer::Refused(r),
+        answer: Err(r),
         fields,
         key: nowhere,
         digest: nowhere,
@@ -136,8 +135,6 @@ fn taken(m: &[u8], b: Body, k: Compounds) -> Reading
     let key = slots[SLOT_AUTH_KEY];
     let digest = slots[SLOT_DIGEST];
     let descriptors = k.descriptors;
-    let older = k.older;
-    let newer = k.newer;
     let fields = Fields {
         code: octet(m, CODE_AT),
         identifier: octet(m, IDENTIFIER_AT),
@@ -147,11 +144,11 @@ fn taken(m: &[u8], b: Body, k: Compounds) -> Reading
         error: octet(part(m, error.start, error.len), 0),
         count: k.count,
         descriptors,
-        older,
-        newer,
+        older: k.older,
+        newer: k.newer,
     };
     Reading {
-        answer: Answer::Done,
+        answer: Ok(()),
         fields,
         key: Place {
             start: key.start,
@@ -164,35 +161,49 @@ fn taken(m: &[u8], b: Body, k: Compounds) -> Reading
     }
 }
 
+// Questions 6 to 9, and the reading of a message that meets them.
+fn asked(e: Receiver, s: &[u8]) -> Result<Reading, Refusal>
+    ensures { result ≡ as_asked (read_of e s.now) }
+{
+    ask(is_whole(s), Refusal::CutMessage)?;
+    let c = octet(s, CODE_AT);
+    ask(is_received(e, c), Refusal::CodeNotReceived)?;
+    let m = &s[..HEAD_OCTETS + length_of(s)];
+    let b = pass_body(m, c);
+    ask(b.sound, Refusal::BadAttribute)?;
+    let k = compounds_in(c, m, b.count, b.compounds);
+    ask(k.sound, Refusal::BadAttribute)?;
+    ask(is_complete(c, b) & k.complete, Refusal::WrongAttributes)?;
+    Ok(taken(m, b, k))
+}
+
+// The same for the reader by itself, which asks the half of 11 after them.
+fn asked_alone(e: Receiver, s: &[u8]) -> Result<Reading, Refusal>
+    ensures { result ≡ as_asked (reader_of e s.now) }
+{
+    let r = asked(e, s)?;
+    ask(
+        is_identifier_allowed(r.fields.code, r.fields.identifier),
+        Refusal::WrongIdentifier,
+    )?;
+    Ok(r)
+}
+
+// What is handed back: where a question is not met, its refusal alone.
+fn handed(asked: Result<Reading, Refusal>) -> Reading
+    ensures { result ≡ handed_back asked }
+{
+    match asked {
+        Ok(r) => r,
+        Err(no) => refused(no),
+    }
+}
+
 // The reading inside an end, which asks 10 to 12 after it.
 pub fn read(e: Receiver, s: &[u8]) -> Reading
     ensures { result ≡ read_of e s.now }
 {
-    if !is_whole(s) {
-        return refused(Refusal::CutMessage);
-    }
-    let c = octet(s, CODE_AT);
-    if !is_received(e, c) {
-        return refused(Refusal::CodeNotReceived);
-    }
-    let end = HEAD_OCTETS + length_of(s);
-    let m = &s[..end];
-    let b = pass_body(m, c);
-    if !b.sound {
-        return refused(Refusal::BadAttribute);
-    }
-    let at = b.compounds;
-    let k = compounds_in(c, m, b.count, at);
-    if !k.sound {
-        return refused(Refusal::BadAttribute);
-    }
-    if !is_complete(c, b) {
-        return refused(Refusal::WrongAttributes);
-    }
-    if !k.complete {
-        return refused(Refusal::WrongAttributes);
-    }
-    taken(m, b, k)
+    handed(asked(e, s))
 }
 
 // The half of question 11 that needs no end's state.
@@ -207,14 +218,5 @@ fn is_identifier_allowed(c: u8, identifier: u8) -> bool
 pub fn read_alone(e: Receiver, s: &[u8]) -> Reading
     ensures { result ≡ reader_of e s.now }
 {
-    let r = read(e, s);
-    let answer = r.answer;
-    let f = r.fields;
-    if !is_done(answer) {
-        return r;
-    }
-    if !is_identifier_allowed(f.code, f.identifier) {
-        return refused(Refusal::WrongIdentifier);
-    }
-    r
+    handed(asked_alone(e, s))
 }

@@ -8,7 +8,7 @@ use lib.Dec.{leb, eqb}
 use native.Mathlib.Omega.{arith}
 use borrow.Author.Tests.{eqb-true, leb-true}
 use Rattle.questions.proofs.TestLaws.{both}
-use Rattle.questions.specs.declared.refusal.Answer.TheVariants.{Done}
+use Rattle.questions.specs.Answer.{Done}
 use Rattle.message_rules.specs.declared.fields.Receiver.{Receiver}
 use Rattle.message_rules.specs.declared.fields.Place.{Place}
 use Rattle.message_rules.specs.Attributes.{Item, items, values, value_at, start_from}

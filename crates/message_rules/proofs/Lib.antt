@@ -1,3 +1,4 @@
+pub mod AskLaws
 pub mod AttributesLaws
 pub mod HoldsLaws
 pub mod CodesLaws

@@ -8,7 +8,7 @@ use lib.Dec.{leb, ltb, eqb}
 use native.Mathlib.Omega.{arith}
 use borrow.Author.Tests.{ltb-true, ltb-false, eqb-true, le-leb, ne_eqb}
 use Rattle.questions.proofs.TestLaws.{both}
-use Rattle.questions.specs.declared.refusal.Answer.TheVariants.{Done}
+use Rattle.questions.specs.Answer.{Done}
 use Rattle.key_traffic.specs.Octets.{padded, all_zero, zero_past_of}
 use Rattle.message_rules.specs.declared.fields.Descriptor.{Descriptor}
 use Rattle.message_rules.specs.declared.fields.Params.{Params}

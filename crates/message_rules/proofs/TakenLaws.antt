@@ -7,7 +7,7 @@ use lib.Dec.{leb, eqb}
 use native.Mathlib.Omega.{arith}
 use borrow.Author.Tests.{leb-true, eqb-true}
 use Rattle.questions.proofs.TestLaws.{both}
-use Rattle.questions.specs.declared.refusal.Answer.TheVariants.{Done}
+use Rattle.questions.specs.Answer.{Done}
 use Rattle.message_rules.specs.declared.fields.Receiver.{Receiver}
 use Rattle.message_rules.specs.declared.fields.Receiver.TheVariants.{HeadEnd, Modem}
 use Rattle.message_rules.specs.Attributes.{Item, items, values, count_of, value_at, last_type, all_of}

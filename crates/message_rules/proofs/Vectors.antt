@@ -2,7 +2,7 @@
 use mathlib.Core.Path.{◌≡◌, refl}
 use mathlib.Core.Bool.{true}
 use lib.ListN.{take, set}
-use Rattle.questions.specs.declared.refusal.Answer.TheVariants.{Done, Refused}
+use Rattle.questions.specs.Answer.{Done, Refused}
 use Rattle.questions.specs.declared.refusal.Refusal.TheVariants.{CutMessage, BadAttribute}
 use Rattle.questions.specs.Refusal.{answer_number_of}
 use Rattle.key_traffic.specs.Octets.{padded}

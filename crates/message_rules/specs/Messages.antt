@@ -1,6 +1,6 @@
 -- Questions 6 to 9 of a message, and the half of 11 that needs no state (document 01, "Messages" and "The questions, in order").
 use Rattle.std.specs.Prelude.{ℕ, ◌+◌, ◌*◌, ◌%◌, List, [], ◌∷◌, ◌++◌, Bool, true, ◌&&◌, ◌||◌, not, cond, length, get_or, take, drop, leb, ltb, eqb}
-use Rattle.questions.specs.declared.refusal.Answer.{Answer}
+use Rattle.questions.specs.Answer.{Answer}
 use Rattle.questions.specs.declared.refusal.Refusal.TheVariants.{CutMessage, CodeNotReceived, BadAttribute, WrongAttributes, WrongIdentifier}
 use Rattle.questions.specs.Questions.{Question, first_no}
 use Rattle.message_rules.specs.declared.fields.Receiver.{Receiver}

@@ -1,7 +1,6 @@
 -- What the reader hands back (document 01, "Messages").
 use Rattle.std.specs.Prelude.{ℕ, List, cond, length}
-use Rattle.questions.specs.declared.refusal.Answer.{Answer}
-use Rattle.questions.specs.declared.refusal.Answer.TheVariants.{Done, Refused}
+use Rattle.questions.specs.Answer.{Answer, Done, Refused}
 use Rattle.message_rules.specs.declared.fields.Receiver.{Receiver}
 use Rattle.message_rules.specs.declared.fields.Place.{Place}
 use Rattle.message_rules.specs.declared.fields.Reading.{Reading}

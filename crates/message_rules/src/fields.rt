@@ -76,13 +76,6 @@ pub struct Reading {
     pub digest: Place,
 }
 
-// What a writing hands back: the answer, and how many octets were written.
-#[derive(Clone, Copy)]
-pub struct Writing {
-    pub answer: Answer,
-    pub count: usize,
-}
-
 // No TEK-Parameters.
 pub fn no_params() -> Params
     ensures { result ≡ no_params_of }

@@ -14,44 +14,29 @@ use crate::codes::{
 pub fn is_required(h: u8, k: u8) -> bool
     ensures { result ≡ is_required_of h k }
 {
-    if h == CODE_AUTHORIZATION_REQUEST {
-        return TYPE_SAID == k;
+    match h {
+        CODE_AUTHORIZATION_REQUEST => TYPE_SAID == k,
+        CODE_AUTHORIZATION_REPLY => {
+            (TYPE_AUTH_KEY == k)
+                | (TYPE_KEY_LIFETIME == k)
+                | (TYPE_KEY_NUMBER == k)
+                | (TYPE_SA_DESCRIPTOR == k)
+        }
+        CODE_AUTHORIZATION_REJECT | CODE_AUTHORIZATION_INVALID => TYPE_ERROR == k,
+        CODE_KEY_REQUEST => (TYPE_KEY_NUMBER == k) | (TYPE_SAID == k) | (TYPE_DIGEST == k),
+        CODE_KEY_REPLY => {
+            (TYPE_KEY_NUMBER == k)
+                | (TYPE_SAID == k)
+                | (TYPE_TEK_PARAMETERS == k)
+                | (TYPE_DIGEST == k)
+        }
+        CODE_KEY_REJECT | CODE_TEK_INVALID => {
+            (TYPE_KEY_NUMBER == k) | (TYPE_SAID == k) | (TYPE_ERROR == k) | (TYPE_DIGEST == k)
+        }
+        TYPE_TEK_PARAMETERS => {
+            (TYPE_TEK == k) | (TYPE_KEY_LIFETIME == k) | (TYPE_KEY_NUMBER == k) | (TYPE_VECTOR == k)
+        }
+        TYPE_SA_DESCRIPTOR => (TYPE_SAID == k) | (TYPE_SA_TYPE == k) | (TYPE_SUITE == k),
+        _ => false,
     }
-    if h == CODE_AUTHORIZATION_REPLY {
-        return (TYPE_AUTH_KEY == k)
-            | (TYPE_KEY_LIFETIME == k)
-            | (TYPE_KEY_NUMBER == k)
-            | (TYPE_SA_DESCRIPTOR == k);
-    }
-    if h == CODE_AUTHORIZATION_REJECT {
-        return TYPE_ERROR == k;
-    }
-    if h == CODE_KEY_REQUEST {
-        return (TYPE_KEY_NUMBER == k) | (TYPE_SAID == k) | (TYPE_DIGEST == k);
-    }
-    if h == CODE_KEY_REPLY {
-        return (TYPE_KEY_NUMBER == k)
-            | (TYPE_SAID == k)
-            | (TYPE_TEK_PARAMETERS == k)
-            | (TYPE_DIGEST == k);
-    }
-    if h == CODE_KEY_REJECT {
-        return (TYPE_KEY_NUMBER == k) | (TYPE_SAID == k) | (TYPE_ERROR == k) | (TYPE_DIGEST == k);
-    }
-    if h == CODE_AUTHORIZATION_INVALID {
-        return TYPE_ERROR == k;
-    }
-    if h == CODE_TEK_INVALID {
-        return (TYPE_KEY_NUMBER == k) | (TYPE_SAID == k) | (TYPE_ERROR == k) | (TYPE_DIGEST == k);
-    }
-    if h == TYPE_TEK_PARAMETERS {
-        return (TYPE_TEK == k)
-            | (TYPE_KEY_LIFETIME == k)
-            | (TYPE_KEY_NUMBER == k)
-            | (TYPE_VECTOR == k);
-    }
-    if h == TYPE_SA_DESCRIPTOR {
-        return (TYPE_SAID == k) | (TYPE_SA_TYPE == k) | (TYPE_SUITE == k);
-    }
-    false
 }

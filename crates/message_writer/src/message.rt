@@ -65,9 +65,8 @@ fn put_reply(out: &mut [u8], f: Fields, auth: &[u8]) -> usize
     ensures wrote { Wrote out.old 0 (attr 7 auth.now ∷ grant_items f.life f.ak (take f.count f.descriptors)) result out.new }
     ensures upper_bound { result ≤ 338 }
 {
-    let ds = f.descriptors;
     let a = put_attr(out, NO_OCTETS, TYPE_AUTH_KEY, auth);
-    put_grant(out, a, f.life, f.ak, f.count, ds)
+    put_grant(out, a, f.life, f.ak, f.count, f.descriptors)
 }
 
 // Key Reply, before its digest.
@@ -94,33 +93,18 @@ pub fn put_front(f: Fields, auth: &[u8], out: &mut [u8]) -> usize
     ensures wrote { Wrote out.old 0 (front_items f auth.now) result out.new }
     ensures upper_bound { result ≤ 338 }
 {
-    let code = f.code;
-    if code == CODE_AUTHORIZATION_REQUEST {
-        return put_two(out, NO_OCTETS, TYPE_SAID, f.said);
+    match f.code {
+        CODE_AUTHORIZATION_REQUEST => put_two(out, NO_OCTETS, TYPE_SAID, f.said),
+        CODE_AUTHORIZATION_REPLY => put_reply(out, f, auth),
+        CODE_AUTHORIZATION_REJECT | CODE_AUTHORIZATION_INVALID => {
+            put_one(out, NO_OCTETS, TYPE_ERROR, f.error)
+        }
+        CODE_KEY_REQUEST => put_named(out, NO_OCTETS, f.ak, f.said),
+        CODE_KEY_REPLY => put_key_reply(out, f),
+        CODE_KEY_REJECT | CODE_TEK_INVALID => put_key_error(out, f),
+        // Authentication Information has none.
+        _ => NO_OCTETS,
     }
-    if code == CODE_AUTHORIZATION_REPLY {
-        return put_reply(out, f, auth);
-    }
-    if code == CODE_AUTHORIZATION_REJECT {
-        return put_one(out, NO_OCTETS, TYPE_ERROR, f.error);
-    }
-    if code == CODE_KEY_REQUEST {
-        return put_named(out, NO_OCTETS, f.ak, f.said);
-    }
-    if code == CODE_KEY_REPLY {
-        return put_key_reply(out, f);
-    }
-    if code == CODE_KEY_REJECT {
-        return put_key_error(out, f);
-    }
-    if code == CODE_AUTHORIZATION_INVALID {
-        return put_one(out, NO_OCTETS, TYPE_ERROR, f.error);
-    }
-    if code == CODE_TEK_INVALID {
-        return put_key_error(out, f);
-    }
-    // Authentication Information has none.
-    NO_OCTETS
 }
 
 // The digest attribute where the code carries one, with zeros until the sum is worked out.
@@ -129,9 +113,9 @@ pub fn put_digest(out: &mut [u8], len: usize, code: u8) -> usize
     ensures wrote { Wrote out.old len (digest_items code no_digest_of) result out.new }
     ensures upper_bound { (result ≤ 361) × (is_required_of code 11 ≡ true → 23 ≤ 4 + result) }
 {
-    if !is_required(code, TYPE_DIGEST) {
-        return len;
+    if is_required(code, TYPE_DIGEST) {
+        put_attr(out, len, TYPE_DIGEST, &[0u8; DIGEST_OCTETS])
+    } else {
+        len
     }
-    let zeros = [0u8; DIGEST_OCTETS];
-    put_attr(out, len, TYPE_DIGEST, &zeros)
 }

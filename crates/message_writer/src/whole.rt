@@ -9,7 +9,7 @@ ghost use Rattle.message_writer.specs.Finish.{kept_length, finished};
 
 use crate::message::{put_digest, put_front};
 use message_digest::digest::store_digest;
-use message_parts::put::put_octets;
+use message_parts::put::{put_octets, two_octets};
 use message_rules::codes::HEAD_OCTETS;
 use message_rules::fields::Fields;
 
@@ -17,8 +17,7 @@ use message_rules::fields::Fields;
 fn put_message_head(out: &mut [u8], code: u8, identifier: u8, len: usize)
     ensures { out.new ≡ sets out.old 0 (head_octets_of code identifier len) }
 {
-    let high = (len / 256 % 256) as u8;
-    let low = (len % 256) as u8;
+    let [high, low] = two_octets(len);
     let head = [code, identifier, high, low];
     put_octets(out, 0, &head);
 }

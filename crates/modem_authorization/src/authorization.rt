@@ -8,7 +8,7 @@ use message_rules::codes::{
     CODE_AUTHENTICATION_INFORMATION, CODE_AUTHORIZATION_REQUEST, UNSOLICITED,
 };
 use modem_tek::parts::{Request, no_request};
-use modem_transitions::identifier::next_identifier;
+use modem_transitions::identifier::next_if;
 use modem_transitions::states::{
     AUTH_AUTHORIZED, AUTH_EVENT_INVALID, AUTH_EVENT_REPLY, AUTH_EVENT_TIMEOUT, AUTH_REAUTH_WAIT,
     AUTH_REJECT_WAIT, AUTH_WAIT, BLANK,
@@ -26,6 +26,7 @@ pub struct Authorization {
     pub timer: Timer,
 }
 
+// A type of its own beside `TekContext`: they have the clock, the grace and the counter in common, and the definitions of each name its waits.
 // What a step uses of the modem: the clock, the waits, the grace, the modem's own SAID and the Identifier counter; and of a Reply
 // the key's number and life.
 #[derive(Clone, Copy)]
@@ -68,39 +69,38 @@ fn is_new(event: u8, from: u8, to: u8) -> bool
     is_requesting(event, from, to) & (event != AUTH_EVENT_TIMEOUT)
 }
 
+#[tactic(auto, unfolding(crate::specs::Authorization::informs_value))]
 fn informs_of(to: u8) -> Request
     ensures { result ≡ informs_value to }
 {
     if to == AUTH_WAIT {
-        return Request {
+        Request {
             code: CODE_AUTHENTICATION_INFORMATION,
             identifier: UNSOLICITED,
             ak: AkNumber(0),
             said: 0,
-        };
+        }
+    } else {
+        no_request()
     }
-    no_request()
 }
 
 impl Authorization {
+    #[tactic(auto, unfolding(crate::specs::Authorization::auth_identifier))]
     fn identifier_after(self, event: u8, to: u8, x: AuthContext) -> u8
         ensures { result ≡ auth_identifier event to self x }
     {
-        if is_new(event, self.state, to) {
-            return next_identifier(x.counter);
-        }
-        self.identifier
+        next_if(is_new(event, self.state, to), x.counter, self.identifier)
     }
 
+    #[tactic(auto, unfolding(crate::specs::Authorization::auth_counter))]
     fn counter_after(self, event: u8, to: u8, x: AuthContext) -> u8
         ensures { result ≡ auth_counter event to self x }
     {
-        if is_new(event, self.state, to) {
-            return next_identifier(x.counter);
-        }
-        x.counter
+        next_if(is_new(event, self.state, to), x.counter, x.counter)
     }
 
+    #[tactic(auto, unfolding(crate::specs::Authorization::auth_timer))]
     fn timer_after(self, event: u8, to: u8, x: AuthContext) -> Timer
         requires { AuthReady x }
         ensures { result ≡ auth_timer event to self x }
@@ -108,82 +108,73 @@ impl Authorization {
         if is_passive(event, self.state) {
             return self.timer;
         }
-        if to == AUTH_WAIT {
-            return set_at(x.clock + x.authorize);
+        match to {
+            AUTH_WAIT => set_at(x.clock + x.authorize),
+            AUTH_REAUTH_WAIT => set_at(x.clock + x.reauthorize),
+            AUTH_REJECT_WAIT => set_at(x.clock + x.reject),
+            AUTH_AUTHORIZED => set_at(x.clock + difference(x.life, x.grace)),
+            _ => cleared(),
         }
-        if to == AUTH_REAUTH_WAIT {
-            return set_at(x.clock + x.reauthorize);
-        }
-        if to == AUTH_REJECT_WAIT {
-            return set_at(x.clock + x.reject);
-        }
-        if to == AUTH_AUTHORIZED {
-            return set_at(x.clock + difference(x.life, x.grace));
-        }
-        cleared()
     }
 
     fn ak_after(self, event: u8, x: AuthContext) -> AkNumber
         ensures { result ≡ ak_after_of event self x }
     {
-        if event == AUTH_EVENT_REPLY {
-            return x.ak;
+        match event {
+            AUTH_EVENT_REPLY => x.ak,
+            _ => self.ak,
         }
-        self.ak
     }
 
+    #[tactic(auto, unfolding(crate::specs::Authorization::requests_of))]
     fn requests_after(self, event: u8, to: u8, x: AuthContext) -> Request
         ensures { result ≡ requests_of event to self x }
     {
         if is_requesting(event, self.state, to) {
-            return Request {
+            Request {
                 code: CODE_AUTHORIZATION_REQUEST,
                 identifier: self.identifier_after(event, to, x),
                 ak: AkNumber(0),
                 said: x.said,
-            };
+            }
+        } else {
+            no_request()
         }
-        no_request()
     }
 
+    #[tactic(auto, unfolding(crate::specs::Authorization::auth_moved))]
     fn moved(self, event: u8, to: u8, x: AuthContext) -> AuthStep
         requires { AuthReady x }
         ensures { result ≡ auth_moved event to self x }
     {
-        let identifier = self.identifier_after(event, to, x);
-        let ak = self.ak_after(event, x);
-        let timer = self.timer_after(event, to, x);
-        let informs = informs_of(to);
-        let requests = self.requests_after(event, to, x);
         let machine = Authorization {
             state: to,
-            identifier: identifier,
-            ak: ak,
-            timer: timer,
+            identifier: self.identifier_after(event, to, x),
+            ak: self.ak_after(event, x),
+            timer: self.timer_after(event, to, x),
         };
         AuthStep {
-            machine: machine,
+            machine,
             counter: self.counter_after(event, to, x),
-            informs: informs,
-            requests: requests,
+            informs: informs_of(to),
+            requests: self.requests_after(event, to, x),
         }
     }
 
     // The machine takes an event; `x.ak` and `x.life` are a Reply's, and no other event uses them.
+    #[tactic(auto, unfolding(crate::specs::Authorization::auth_step_of))]
     pub fn step(self, event: u8, x: AuthContext) -> AuthStep
         requires { AuthReady x }
         ensures { result ≡ auth_step_of self event x }
     {
-        let to = authorization_next(event, self.state);
-        if to == BLANK {
-            let none = no_request();
-            return AuthStep {
+        match authorization_next(event, self.state) {
+            BLANK => AuthStep {
                 machine: self,
                 counter: x.counter,
-                informs: none,
-                requests: none,
-            };
+                informs: no_request(),
+                requests: no_request(),
+            },
+            to => self.moved(event, to, x),
         }
-        self.moved(event, to, x)
     }
 }

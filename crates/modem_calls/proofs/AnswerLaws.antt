@@ -5,22 +5,19 @@ use mathlib.Core.List.{List, [], ◌∷◌, ◌++◌}
 use Prim.Native.Nat.{ℕ}
 use native.Mathlib.Omega.{arith}
 use lib.Dec.{leb}
-use Rattle.questions.specs.declared.refusal.Answer.{Answer}
-use Rattle.questions.specs.declared.refusal.Answer.TheVariants.{Done, Refused}
+use Rattle.questions.specs.Answer.{Answer, Done, Refused}
 use Rattle.questions.specs.declared.refusal.Refusal.{Refusal}
-use Rattle.questions.specs.declared.refusal.Refusal.TheVariants.{OutOfLimits, WrongLength, CutMessage, CodeNotReceived, BadAttribute, WrongAttributes, UnknownSaid, WrongIdentifier, DigestFails}
+use Rattle.questions.specs.declared.refusal.Refusal.TheVariants.{CutMessage, CodeNotReceived, BadAttribute, WrongAttributes, UnknownSaid, WrongIdentifier, DigestFails}
 use Rattle.key_traffic.specs.Octets.{overlay}
-use Rattle.questions.specs.Questions.{Question, first_no}
-use Rattle.questions.specs.Refusal.{is_done_of}
-use Rattle.questions.proofs.AnswerLaws.{is-done}
+use Rattle.questions.specs.Questions.{Question, first_no, answer_then}
+use Rattle.questions.proofs.AnswerLaws.{first_append}
 use Rattle.message_rules.specs.declared.fields.Receiver.{Receiver}
 use Rattle.message_rules.specs.declared.fields.Receiver.TheVariants.{Modem as AtModem}
 use Rattle.message_rules.specs.declared.fields.Reading.{Reading}
 use Rattle.message_rules.specs.Messages.{is_whole, question7, question8, question9, message_questions, message_answer}
 use Rattle.message_rules.specs.declared.fields.Fields.{Fields}
-use Rattle.message_rules.specs.declared.fields.Place.{Place}
 use Rattle.message_rules.specs.Reading.{taken_of, read_of}
-use Rattle.message_digest.specs.Digest.{digest_holds_of}
+use Rattle.message_digest.specs.Digest.{message_key_fits_of, digest_holds_of}
 use Rattle.message_rules.proofs.MessageAnswers.{read_answer}
 use Rattle.modem_steps.specs.declared.state.Modem.{Modem}
 use Rattle.modem_steps.specs.declared.state.Progress.{Progress}
@@ -30,7 +27,7 @@ use Rattle.modem_limits.specs.Limits.{modem_fits_of}
 use Rattle.modem_steps.specs.State.{starting}
 use Rattle.modem_steps.specs.Machine.{plain_event_of}
 use Rattle.modem_calls.specs.Messages.{out_octets, OutFits}
-use Rattle.modem_calls.specs.Calls.{result_of, refused_call, answered_call, done_call, first_questions}
+use Rattle.modem_calls.specs.Calls.{result_of, refused_call, done_call, first_questions, first_answer_of, receive_answer_of}
 
 -- ---- what is given for an answer
 module _ (m : Modem) (lent : List ℕ) (answer : Answer) (key : List ℕ) (w : Progress) where
@@ -41,26 +38,10 @@ module _ (m : Modem) (lent : List ℕ) (answer : Answer) (key : List ℕ) (w : P
       → (c ≡ (result_of answer m key w).called) × (after ≡ overlay lent (result_of answer m key w).written)
   done_by v c after e ev ec ea = rw e (ec ∙ ap (done_call key) ev, ea ∙ ap (λ (x : Progress). overlay lent (out_octets key x.out)) ev)
 
--- a refusal of the reader's is handed on as it is
-pub handed_on : (m : Modem) (lent key : List ℕ) (w : Progress) (read answer : Answer) (c : Called) → is_done_of read ≡ false → ((r : Refusal) → read ≡ Refused r → answer ≡ Refused r)
-    → c ≡ answered_call read m → (c ≡ (result_of answer m key w).called) × (lent ≡ overlay lent (result_of answer m key w).written)
-handed_on m lent key w Done answer c e same ec = let z : ◌≡◌ {A = ℕ} 0 1 = cc in absurd (omega arith)
-handed_on m lent key w (Refused r) answer c e same ec = rw (same r refl) (ec, refl)
-
 -- ---- questions 1 and 2, before any others
-module _ (m : Modem) (keys : Bool) (lent : ℕ) (qs : List Question) where
-  pub limits_no : modem_fits_of m ≡ false → first_no (first_questions m keys lent ++ qs) ≡ Refused OutOfLimits
-  limits_no e = simp e
-
-  pub length_no : modem_fits_of m ≡ true → (keys && leb 216 lent) ≡ false → first_no (first_questions m keys lent ++ qs) ≡ Refused WrongLength
-  length_no e short = simp (e, short)
-
-  pub first_met : modem_fits_of m ≡ true → (keys && leb 216 lent) ≡ true → first_no (first_questions m keys lent ++ qs) ≡ first_no qs
-  first_met e long = simp (e, long)
-
--- question 2 by what was found of both message keys
-pub keys_found : (a b c d k r : Bool) → a ≡ c → b ≡ d → (a && b && k) ≡ r → (c && d && k) ≡ r
-keys_found a b c d k r ea eb e = rw (sym ea, sym eb) e
+pub first_met : (m : Modem) (keys : Bool) (lent : ℕ) (qs : List Question) → modem_fits_of m ≡ true → (keys && leb 216 lent) ≡ true
+    → first_no (first_questions m keys lent ++ qs) ≡ first_no qs
+first_met m keys lent qs e long = simp (e, long)
 
 -- ---- a reading
 pub read_digest : (e : Receiver) (s : List ℕ) → message_answer e s ≡ Done → (read_of e s).digest ≡ (taken_of s).digest
@@ -94,6 +75,15 @@ reader_yes true true false d w rest e = let z : ◌≡◌ {A = ℕ} 0 1 = cc in 
 reader_yes true true true false w rest e = let z : ◌≡◌ {A = ℕ} 0 1 = cc in absurd (omega arith)
 reader_yes true true true true w rest e = refl
 
+-- those that are left of a message's fields `f`, where `digest` says whether its digest holds
+abbrev pub fields_questions : Modem → Fields → Bool → List Question
+fields_questions m f digest =
+    record { refusal = WrongAttributes; met = widths_fit_of m f }
+    ∷ record { refusal = UnknownSaid; met = said_known_of m f }
+    ∷ record { refusal = WrongIdentifier; met = identifier_fits_of m f }
+    ∷ record { refusal = DigestFails; met = question12 digest f }
+    ∷ []
+
 module _ (m : Modem) (s : List ℕ) (digest : Bool) where
   abbrev later : List Question
   later =
@@ -106,27 +96,13 @@ module _ (m : Modem) (s : List ℕ) (digest : Bool) where
   unfolding message_answer message_questions receive_questions
   message_no r e = reader_no (is_whole s) (question7 AtModem s) (question8 s) (question9 s) (widths_fit_of m (fields_in s)) later r e
 
-  module _ (taken : message_answer AtModem s ≡ Done) where
-    asked : first_no (receive_questions m s digest) ≡ cond (widths_fit_of m (fields_in s)) (first_no later) (Refused WrongAttributes)
-    unfolding message_answer message_questions receive_questions
-    asked = reader_yes (is_whole s) (question7 AtModem s) (question8 s) (question9 s) (widths_fit_of m (fields_in s)) later taken
+  message_yes : message_answer AtModem s ≡ Done → first_no (receive_questions m s digest) ≡ first_no (fields_questions m (fields_in s) digest)
+  unfolding message_answer message_questions receive_questions
+  message_yes taken = reader_yes (is_whole s) (question7 AtModem s) (question8 s) (question9 s) (widths_fit_of m (fields_in s)) later taken
 
-    pub widths_no : widths_fit_of m (fields_in s) ≡ false → first_no (receive_questions m s digest) ≡ Refused WrongAttributes
-    widths_no e = asked ∙ simp e
-
-    module _ (wide : widths_fit_of m (fields_in s) ≡ true) where
-      pub said_no : said_known_of m (fields_in s) ≡ false → first_no (receive_questions m s digest) ≡ Refused UnknownSaid
-      said_no e = asked ∙ simp (wide, e)
-
-      module _ (known : said_known_of m (fields_in s) ≡ true) where
-        pub identifier_no : identifier_fits_of m (fields_in s) ≡ false → first_no (receive_questions m s digest) ≡ Refused WrongIdentifier
-        identifier_no e = asked ∙ simp (wide, known, e)
-
-        pub digest_no : identifier_fits_of m (fields_in s) ≡ true → question12 digest (fields_in s) ≡ false → first_no (receive_questions m s digest) ≡ Refused DigestFails
-        digest_no i e = asked ∙ simp (wide, known, i, e)
-
-        pub all_met : identifier_fits_of m (fields_in s) ≡ true → question12 digest (fields_in s) ≡ true → first_no (receive_questions m s digest) ≡ Done
-        all_met i e = asked ∙ simp (wide, known, i, e)
+  pub all_met : message_answer AtModem s ≡ Done → widths_fit_of m (fields_in s) ≡ true → said_known_of m (fields_in s) ≡ true → identifier_fits_of m (fields_in s) ≡ true
+      → question12 digest (fields_in s) ≡ true → first_no (receive_questions m s digest) ≡ Done
+  all_met taken wide known i e = message_yes taken ∙ simp (wide, known, i, e)
 
 -- ---- the work of a call by another name for it
 pub event_there : (m : Modem) (event : ℕ) (v w : Progress) → v ≡ starting m → w ≡ plain_event_of v event → w ≡ plain_event_of (starting m) event
@@ -135,26 +111,54 @@ event_there m event v w ev e = e ∙ ap (λ (x : Progress). plain_event_of x eve
 pub out_there : (w v : Progress) → w ≡ v → OutFits v.out 6 → OutFits w.out 6
 out_there w v e fits = subst (λ (x : Progress). OutFits x.out 6) (sym e) fits
 
--- ---- a reading by its result
-module _ (s : List ℕ) (r : Reading) (e : r ≡ read_of AtModem s) where
+-- ---- a question that is gone on after is met
+pub asked_yes : (met : Bool) (r : Refusal) → Done ≡ cond met Done (Refused r) → met ≡ true
+asked_yes true r e = refl
+asked_yes false r e = let z : ◌≡◌ {A = ℕ} 0 1 = cc in absurd (omega arith)
+
+-- ---- four questions in turn
+in_turn : (a b c d : Bool) → cond a (cond b (cond c (cond d Done (Refused DigestFails)) (Refused WrongIdentifier)) (Refused UnknownSaid)) (Refused WrongAttributes)
+    ≡ answer_then (cond a Done (Refused WrongAttributes))
+    (answer_then (cond b Done (Refused UnknownSaid)) (answer_then (cond c Done (Refused WrongIdentifier)) (cond d Done (Refused DigestFails))))
+in_turn false b c d = refl
+in_turn true false c d = refl
+in_turn true true false d = refl
+in_turn true true true d = refl
+
+-- ---- the questions of a message by what the reader gave: `r` is its reading
+module _ (m : Modem) (s read write : List ℕ) (lent : ℕ) (r : Reading) (e : r ≡ read_of AtModem s) where
   reading_answer : r.answer ≡ message_answer AtModem s
   reading_answer = ap (λ (x : Reading). x.answer) e ∙ read_answer AtModem s
 
-  pub reading_done : is_done_of r.answer ≡ true → message_answer AtModem s ≡ Done
-  reading_done d = sym reading_answer ∙ is-done r.answer d
+  pub reading_fields : r.answer ≡ Done → r.fields ≡ fields_in s
+  reading_fields d = ap (λ (x : Reading). x.fields) e ∙ read_fields AtModem s (sym reading_answer ∙ d)
 
-  pub reading_no : (x : Refusal) → r.answer ≡ Refused x → message_answer AtModem s ≡ Refused x
-  reading_no x d = sym reading_answer ∙ d
+  reading_digest : r.answer ≡ Done → r.digest ≡ (taken_of s).digest
+  reading_digest d = ap (λ (x : Reading). x.digest) e ∙ read_digest AtModem s (sym reading_answer ∙ d)
 
-  pub reading_fields : is_done_of r.answer ≡ true → r.fields ≡ fields_in s
-  reading_fields d = ap (λ (x : Reading). x.fields) e ∙ read_fields AtModem s (reading_done d)
+  asked_later : first_no (receive_questions m s (digest_holds_of read (taken_of s).digest s))
+      ≡ answer_then r.answer (first_no (fields_questions m r.fields (digest_holds_of read r.digest s)))
+  asked_later = go r.answer refl
+    where
+      go : (a : Answer) → r.answer ≡ a → first_no (receive_questions m s (digest_holds_of read (taken_of s).digest s))
+          ≡ answer_then r.answer (first_no (fields_questions m r.fields (digest_holds_of read r.digest s)))
+      go Done d =
+          message_yes m s (digest_holds_of read (taken_of s).digest s) (sym reading_answer ∙ d)
+          ∙ rw (d, reading_fields d, reading_digest d) refl
+      go (Refused x) d = message_no m s (digest_holds_of read (taken_of s).digest s) x (sym reading_answer ∙ d) ∙ rw d refl
 
-  reading_digest : is_done_of r.answer ≡ true → r.digest ≡ (taken_of s).digest
-  reading_digest d = ap (λ (x : Reading). x.digest) e ∙ read_digest AtModem s (reading_done d)
-
-  -- question 12 by what was found of the digest at the place that the reading gives
-  pub digest_asked : (key : List ℕ) (h q : Bool) → is_done_of r.answer ≡ true → h ≡ digest_holds_of key r.digest s → q ≡ question12 h r.fields
-      → q ≡ question12 (digest_holds_of key (taken_of s).digest s) (fields_in s)
-  digest_asked key h q d eh eq =
-      eq ∙ ap (λ (f : Fields). question12 h f) (reading_fields d)
-      ∙ ap (λ (b : Bool). question12 b (fields_in s)) (eh ∙ ap (λ (p : Place). digest_holds_of key p s) (reading_digest d))
+  -- all of them in turn, as the code asks them; it goes on after each that is met
+  module _ (reads writes wide known answers right holds : Bool) (er : reads ≡ message_key_fits_of read) (ew : writes ≡ message_key_fits_of write)
+      (e₁ : wide ≡ widths_fit_of m r.fields) (e₂ : known ≡ said_known_of m r.fields) (e₃ : answers ≡ identifier_fits_of m r.fields)
+      (e₄ : right ≡ digest_holds_of read r.digest s) (e₅ : holds ≡ question12 right r.fields) where
+    pub asked_in_turn : receive_answer_of m s read write lent
+        ≡ answer_then (first_answer_of m (reads && writes) lent)
+        (answer_then r.answer
+        (answer_then (cond wide Done (Refused WrongAttributes))
+        (answer_then (cond known Done (Refused UnknownSaid))
+        (answer_then (cond answers Done (Refused WrongIdentifier)) (cond holds Done (Refused DigestFails))))))
+    asked_in_turn =
+        first_append (first_questions m (message_key_fits_of read && message_key_fits_of write) lent) (receive_questions m s (digest_holds_of read (taken_of s).digest s))
+        ∙ rw (asked_later, er, ew, e₅, e₄, e₃, e₂, e₁)
+        (ap (λ (a : Answer). answer_then (first_answer_of m (message_key_fits_of read && message_key_fits_of write) lent) (answer_then r.answer a))
+        (in_turn (widths_fit_of m r.fields) (said_known_of m r.fields) (identifier_fits_of m r.fields) (question12 (digest_holds_of read r.digest s) r.fields)))

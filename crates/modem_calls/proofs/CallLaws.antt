@@ -7,8 +7,7 @@ use native.Mathlib.Omega.{arith}
 use lib.Dec.{ltb, leb}
 use lib.ListN.{length}
 use borrow.Author.Tests.{ltb-true, leb-true, eqb-true}
-use Rattle.questions.specs.declared.refusal.Answer.{Answer}
-use Rattle.questions.specs.declared.refusal.Answer.TheVariants.{Done, Refused}
+use Rattle.questions.specs.Answer.{Answer, Done, Refused}
 use Rattle.questions.specs.declared.refusal.Refusal.{Refusal}
 use Rattle.questions.specs.declared.settings.Settings.{Settings}
 use Rattle.questions.specs.Questions.{Question, first_no}
@@ -41,6 +40,9 @@ clock_asked m t write lent e =
     let c = both (leb m.clock t) (leb t 1000000000000) h.1.1.0 in
     let k = both (message_key_fits_of write) (leb 216 lent) h.1.0 in
     (h.0, leb-true m.clock t c.0, leb-true t 1000000000000 c.1, leb-true 216 lent k.1, eqb-true (length write) 20 k.0)
+
+pub event_asked : (m : Modem) (lent : ℕ) → first_no (first_questions m true lent) ≡ Done → (modem_fits_of m ≡ true) × (216 ≤ lent)
+event_asked m lent e = let h = done_met (first_questions m true lent) e in (h.0, leb-true 216 lent h.1.0)
 
 -- questions 1 to 12 of a message, with the key of what is read
 pub record Asked (m : Modem) (s key : List ℕ) : Type 0 where

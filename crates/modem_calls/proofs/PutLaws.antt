@@ -11,7 +11,6 @@ use Rattle.key_traffic.specs.Octets.{overlay}
 use Rattle.modem_tek.specs.declared.parts.Request.{Request}
 use Rattle.modem_tek.specs.TekParts.{nothing}
 use Rattle.message_rules.specs.declared.fields.Fields.{Fields}
-use Rattle.message_rules.specs.declared.fields.Writing.{Writing}
 use Rattle.message_digest.specs.Written.{written_of, write_of}
 use Rattle.message_digest.proofs.CallLaws.{call_done}
 use Rattle.key_traffic.proofs.StoreLaws.{sets_append}
@@ -93,14 +92,13 @@ module _ (r : Request) (fits : RequestFits r) (key : List ℕ) (twenty : length 
   mid_long : 36 ≤ length mid
   mid_long = rw (length-take (length out - at) (drop at out), length-drop at out) (omega arith)
 
-  pub put_count : (w : Writing) → w ≡ write_of f [] key (length mid) → w.count ≡ length (request_octets key r)
-  put_count w e =
-      ap (λ (v : Writing). v.count) e ∙ ap (λ (g : Fields). (write_of g [] key (length mid)).count) is ∙ request_count r fits key twenty (length mid) mid_long
+  pub put_count : (n : ℕ) → n ≡ (write_of f [] key (length mid)).count → n ≡ length (request_octets key r)
+  put_count n e = e ∙ ap (λ (g : Fields). (write_of g [] key (length mid)).count) is ∙ request_count r fits key twenty (length mid) mid_long
 
-  pub put_at : (w : Writing) (part : List ℕ) → w ≡ write_of f [] key (length mid) → part ≡ overlay mid (written_of f [] key (length mid))
-      → (put_mid at (length out - at) out part ≡ sets out at (request_octets key r)) × ((at + w.count ≡ at + length (request_octets key r)) × (at + w.count ≤ at + 36))
-  put_at w part e p =
-      let count = put_count w e in
+  pub put_at : (n : ℕ) (part : List ℕ) → n ≡ (write_of f [] key (length mid)).count → part ≡ overlay mid (written_of f [] key (length mid))
+      → (put_mid at (length out - at) out part ≡ sets out at (request_octets key r)) × ((at + n ≡ at + length (request_octets key r)) × (at + n ≤ at + 36))
+  put_at n part e p =
+      let count = put_count n e in
       let short = fits.short key in
       let written : written_of f [] key (length mid) ≡ request_octets key r =
       ap (λ (g : Fields). written_of g [] key (length mid)) is ∙ request_written r fits key twenty (length mid) mid_long in (

@@ -7,7 +7,7 @@ use Prim.Native.Nat.{ℕ, ◌≤◌}
 use lib.Dec.{eqb}
 use lib.ListN.{length, take, drop}
 use borrow.Author.Tests.{eqb-true}
-use Rattle.questions.specs.declared.refusal.Answer.TheVariants.{Done}
+use Rattle.questions.specs.Answer.{Done}
 use Rattle.message_rules.specs.declared.fields.Receiver.TheVariants.{Modem as AtModem}
 use Rattle.message_rules.specs.Ranges.{is_required_of}
 use Rattle.message_rules.specs.Messages.{code_of, identifier_of, receives, question7, identifier_allowed, reader_answer_of}

@@ -8,8 +8,7 @@ use lib.Dec.{eqb}
 use lib.ListN.{length, get_or, take, replicate, length-append}
 use lib.Seq.{get_or-take}
 use borrow.Author.Tests.{eq-eqb}
-use Rattle.questions.specs.declared.refusal.Answer.{Answer}
-use Rattle.questions.specs.declared.refusal.Answer.TheVariants.{Done, Refused}
+use Rattle.questions.specs.Answer.{Answer, Done, Refused}
 use Rattle.questions.proofs.ListLaws.{Each, each_nil}
 use Rattle.questions.proofs.TestLaws.{both}
 use Rattle.message_rules.specs.declared.fields.Descriptor.{Descriptor}

@@ -2,8 +2,7 @@
 use Rattle.std.specs.Prelude.{◌≡◌, ℕ, Bool, true, ◌&&◌, List, [], ◌∷◌, ◌++◌, leb, length}
 use Rattle.key_traffic.specs.Octets.{overlay}
 use Rattle.key_traffic.specs.Addresses.{said_fits_of, address_fits_of}
-use Rattle.questions.specs.declared.refusal.Answer.{Answer}
-use Rattle.questions.specs.declared.refusal.Answer.TheVariants.{Done, Refused}
+use Rattle.questions.specs.Answer.{Answer, Done, Refused}
 use Rattle.questions.specs.declared.refusal.Refusal.{Refusal}
 use Rattle.questions.specs.declared.refusal.Refusal.TheVariants.{OutOfLimits, WrongLength, ClockOutOfOrder}
 use Rattle.questions.specs.declared.settings.Settings.{Settings}
@@ -29,12 +28,9 @@ pub record Result : Type 0 where
 abbrev pub done_call : List ℕ → Progress → Called
 done_call key w = record { answer = Done; modem = w.modem; count = length (out_octets key w.out) }
 
--- An answer with the modem as it was
-abbrev pub answered_call : Answer → Modem → Called
-answered_call a m = record { answer = a; modem = m; count = 0 }
-
+-- A refusal with the modem as it was
 abbrev pub refused_call : Refusal → Modem → Called
-refused_call r m = answered_call (Refused r) m
+refused_call r m = record { answer = Refused r; modem = m; count = 0 }
 
 -- `key` is the message key of what is written
 abbrev pub result_of : Answer → Modem → List ℕ → Progress → Result
@@ -45,6 +41,9 @@ result_of (Refused r) m key w = record { called = refused_call r m; written = []
 abbrev pub first_questions : Modem → Bool → ℕ → List Question
 first_questions m keys lent =
     record { refusal = OutOfLimits; met = modem_fits_of m } ∷ record { refusal = WrongLength; met = keys && leb 216 lent } ∷ []
+
+abbrev pub first_answer_of : Modem → Bool → ℕ → Answer
+first_answer_of m keys lent = first_no (first_questions m keys lent)
 
 -- A fresh modem: question 1 of the settings, the address and its own SAID
 unfoldable pub new_questions : Settings → ℕ → ℕ → List Question

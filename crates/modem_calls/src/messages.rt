@@ -12,20 +12,17 @@ use modem_tek::parts::Request;
 fn request_fields(r: Request) -> Fields
     ensures { result ≡ request_fields_of r }
 {
-    let none = no_params();
-    let ak = r.ak;
-    let ds = no_descriptors();
     Fields {
         code: r.code,
         identifier: r.identifier,
-        ak: ak,
+        ak: r.ak,
         said: r.said,
         life: 0,
         error: 0,
         count: 0,
-        descriptors: ds,
-        older: none,
-        newer: none,
+        descriptors: no_descriptors(),
+        older: no_params(),
+        newer: no_params(),
     }
 }
 
@@ -34,11 +31,8 @@ fn put_request(r: Request, key: &[u8], out: &mut [u8], at: usize) -> usize
     requires { RequestFits r × (length key.now ≡ 20) × (at + 36 ≤ length out.old) }
     ensures { (out.new ≡ sets out.old at (request_octets key.now r)) × ((result ≡ at + length (request_octets key.now r)) × (result ≤ at + 36)) }
 {
-    let f = request_fields(r);
-    let none = [0u8; 1];
-    let auth = &none[..0];
-    let w = write(f, auth, key, &mut out[at..]);
-    at + w.count
+    let count = write(request_fields(r), b"", key, &mut out[at..]).unwrap_or(0);
+    at + count
 }
 
 // All of them, from the front; how many octets there are is handed back.
@@ -46,13 +40,9 @@ pub fn put_out(o: Out, key: &[u8], out: &mut [u8]) -> usize
     requires { OutFits o 6 × (length key.now ≡ 20) × (216 ≤ length out.old) }
     ensures { (out.new ≡ overlay out.old (out_octets key.now o)) × (result ≡ length (out_octets key.now o)) }
 {
-    let count = o.count;
-    let mut at: usize = 0;
-    let mut i: usize = 0;
-    while i < count {
-        let r = o.sent[i];
-        at = put_request(r, key, out, at);
-        i += 1;
+    let mut at = 0;
+    for r in &o.sent[..o.count] {
+        at = put_request(*r, key, out, at);
     }
     at
 }

@@ -10,8 +10,7 @@ use lib.ListN.{length}
 use borrow.Author.Tests.{ltb-true, leb-true, lt-ltb, le-leb, eqb-true, eq-eqb}
 use Rattle.key_traffic.specs.declared.numbers.TekNumber.{TekNumber}
 use Rattle.key_traffic.specs.declared.traffic.TrafficKey.{TrafficKey}
-use Rattle.questions.specs.declared.refusal.Answer.{Answer}
-use Rattle.questions.specs.declared.refusal.Answer.TheVariants.{Done, Refused}
+use Rattle.questions.specs.Answer.{Answer, Done, Refused}
 use Rattle.questions.specs.declared.refusal.Refusal.{Refusal}
 use Rattle.questions.specs.declared.refusal.Refusal.TheVariants.{OutOfLimits, WrongLength, UnknownSaid, NoKeyForFrame, NoKeyToSeal}
 use Rattle.key_traffic.specs.Numbers.{tek_in_range_of}
@@ -20,7 +19,7 @@ use Rattle.key_traffic.specs.Suites.{width_of}
 use Rattle.questions.specs.Questions.{Question}
 use Rattle.questions.specs.Refusal.{answer_number_of}
 use Rattle.key_traffic.specs.Traffic.{key_fits_of, pair_fits_of}
-use Rattle.key_traffic.specs.declared.frame.Opening.{Opening}
+use Rattle.key_traffic.specs.Opening.{Opening}
 use Rattle.key_traffic.specs.Frame.{opening_key_of, opens}
 use Rattle.key_traffic.specs.Sealing.{key_out, key_out_of, sealed_for}
 use Rattle.key_traffic.proofs.FrameLaws.{opening_key}

@@ -1,21 +1,17 @@
 -- The machine that sealing and opening ask: what the parts of the code say of the definitions.
-use mathlib.Core.Path.{◌≡◌, refl, ◌∙◌, ap}
+use mathlib.Core.Path.{◌≡◌, refl, ap}
 use mathlib.Core.Bool.{Bool, true, false, ◌&&◌, cond}
 use mathlib.Core.List.{List}
-use Prim.Native.Nat.{ℕ, ◌≤◌, ◌<◌}
-use native.Mathlib.Omega.{arith}
+use Prim.Native.Nat.{ℕ}
 use lib.Dec.{leb, ltb, eqb}
-use borrow.Author.Tests.{lt-ltb, le-ltb}
 use Rattle.key_traffic.specs.declared.numbers.TekNumber.{TekNumber}
-use Rattle.questions.specs.declared.refusal.Answer.{Answer}
-use Rattle.questions.specs.declared.refusal.Answer.TheVariants.{Done, Refused}
+use Rattle.questions.specs.Answer.{Answer, Done, Refused}
 use Rattle.questions.specs.declared.refusal.Refusal.{Refusal}
 use Rattle.questions.specs.declared.refusal.Refusal.TheVariants.{OutOfLimits, WrongLength, UnknownSaid, NoKeyForFrame, NoKeyToSeal}
 use Rattle.key_traffic.specs.Numbers.{tek_in_range_of}
 use Rattle.modem_tek.specs.declared.tek.Tek.{Tek}
 use Rattle.modem_steps.specs.declared.state.Modem.{Modem}
-use Rattle.modem_steps.specs.State.{no_tek_of, slot_at}
-use Rattle.modem_steps.specs.Slots.{slot_of_said_of}
+use Rattle.modem_steps.specs.State.{no_tek_of}
 use Rattle.modem_receive.specs.Receive.{is_known_of}
 use Rattle.modem_limits.specs.Limits.{modem_fits_of}
 use Rattle.message_digest.specs.Digest.{message_key_fits_of}
@@ -24,17 +20,6 @@ use Rattle.modem_frames.specs.Frames.{machine_of, seal_answer_of, open_answer_of
 use Rattle.modem_frames.specs.FrameCalled.{known_machine}
 
 -- ---- the machine of a SAID
-module _ (m : Modem) (said i : ℕ) (ei : i ≡ slot_of_said_of m said) where
-  pub machine_none : 4 ≤ i → no_tek_of ≡ known_machine m said
-  unfolding known_machine
-  machine_none over = let past : 4 ≤ slot_of_said_of m said = omega (arith, ei, over) in simp (le-ltb (slot_of_said_of m said) 4 past)
-
-  pub machine_is : i < 4 → slot_at m i ≡ known_machine m said
-  unfolding known_machine
-  machine_is small =
-      let inside : slot_of_said_of m said < 4 = omega (arith, ei, small) in
-      ap (slot_at m) ei ∙ simp (lt-ltb (slot_of_said_of m said) 4 inside)
-
 pub machine_known : (m : Modem) (said : ℕ) → is_known_of m said ≡ true → known_machine m said ≡ machine_of m said
 unfolding known_machine
 machine_known m said e = simp e

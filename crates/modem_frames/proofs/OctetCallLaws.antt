@@ -3,18 +3,17 @@ use mathlib.Core.Path.{◌≡◌, refl, sym, ◌∙◌, ap, subst}
 use mathlib.Core.Bool.{Bool, true, false}
 use mathlib.Core.List.{List}
 use Prim.Native.Nat.{ℕ, ◌≤◌}
-use native.Mathlib.Omega.{arith}
 use lib.ListN.{length}
+use lib.Dec.{eqb}
 use Rattle.key_traffic.specs.declared.numbers.TekNumber.{TekNumber}
-use Rattle.key_traffic.specs.declared.frame.Opening.{Opening}
-use Rattle.questions.specs.declared.refusal.Answer.{Answer}
-use Rattle.questions.specs.declared.refusal.Answer.TheVariants.{Done, Refused}
+use Rattle.key_traffic.specs.Opening.{Opening}
+use Rattle.questions.specs.Answer.{Answer, Done, Refused}
 use Rattle.key_traffic.specs.Frame.{opens}
 use Rattle.key_traffic.specs.Octets.{overlay}
 use Rattle.key_traffic.specs.Suites.{width_of}
 use Rattle.key_traffic.specs.Sealing.{key_out, opened_by_of}
-use Rattle.questions.specs.Refusal.{answer_number_of, is_done_of}
-use Rattle.questions.proofs.AnswerLaws.{is-done, number_done}
+use Rattle.questions.specs.declared.refusal.Refusal.{Refusal}
+use Rattle.questions.specs.Refusal.{number_of, answer_number_of}
 use Rattle.frame_octets.specs.Framed.{seal_under_of, open_under_of, FrameSealGives}
 use Rattle.frame_octets.proofs.FramedLaws.{seal_refused, seal_done}
 use Rattle.message_digest.specs.Digest.{message_key_fits_of}
@@ -26,9 +25,8 @@ use Rattle.modem_frames.specs.declared.rules.OpenedCall.{OpenedCall}
 use Rattle.modem_frames.specs.FrameRules.{pair_opening_of, counted_by_of}
 use Rattle.modem_frames.specs.Frames.{machine_of, can_open_of, ModemOpened, missed, opened_for, machine_out}
 use Rattle.modem_frames.specs.OctetFrames.{seal_frame_asked_of, seal_frame_answer_of, seal_frame_value, open_frame_asked_of, open_frame_answer_of, ModemOpenedFrame, opened_frame_of, open_frame_value, OpenFrameGives}
-use Rattle.modem_frames.specs.FrameCalled.{opened_call_of, open_called_of, known_machine}
+use Rattle.modem_frames.specs.FrameCalled.{not_sealed_of, opened_call_of, open_called_of, known_machine}
 use Rattle.modem_frames.proofs.MachineLaws.{machine_known}
-use Rattle.modem_frames.proofs.FrameCalledLaws.{opened_13, opened_other}
 use Rattle.modem_frames.proofs.OctetLaws.{seal_frame_asked, seal_frame_met, open_frame_asked, open_frame_missing, open_frame_met}
 
 -- ---- sealing
@@ -37,15 +35,14 @@ module _ (m : Modem) (said : ℕ) (frame sealed : List ℕ) (t : Tek) (a : Answe
   seal-answer : a ≡ seal_frame_answer_of m said (length frame) (length sealed)
   seal-answer = ea ∙ ap (λ (u : Tek). seal_frame_asked_of m said u (length frame) (length sealed)) et ∙ seal_frame_asked m said (length frame) (length sealed)
 
-  pub seal_frame_refused : is_done_of a ≡ false
-      → FrameSealGives (seal_frame_value m said frame (length sealed)) sealed (record { answer = a; number = record { 0 = 0 }; width = 0 }) sealed
+  pub seal_frame_refused : (r : Refusal) → a ≡ Refused r → FrameSealGives (seal_frame_value m said frame (length sealed)) sealed (not_sealed_of r) sealed
   unfolding seal_frame_value
-  seal_frame_refused e =
-      seal_refused (width_of (machine_of m said).suite) (machine_of m said).pair.newer frame sealed a (seal_frame_answer_of m said (length frame) (length sealed)) seal-answer e
+  seal_frame_refused r e =
+      seal_refused (width_of (machine_of m said).suite) (machine_of m said).pair.newer frame sealed (Refused r) (seal_frame_answer_of m said (length frame) (length sealed)) (sym e ∙ seal-answer) refl
 
-  module _ (e : is_done_of a ≡ true) where
+  module _ (e : a ≡ Done) where
     met : (12 ≤ length frame) × (length frame ≤ length sealed) × (is_known_of m said ≡ true) × (width_of (machine_of m said).suite ≡ 16)
-    met = seal_frame_met m said (length frame) (length sealed) (sym seal-answer ∙ is-done a e)
+    met = seal_frame_met m said (length frame) (length sealed) (sym seal-answer ∙ e)
 
     pub seal_frame_long : (12 ≤ length frame) × (length frame ≤ length sealed)
     seal_frame_long = (met.0, met.1)
@@ -54,13 +51,13 @@ module _ (m : Modem) (said : ℕ) (frame sealed : List ℕ) (t : Tek) (a : Answe
     abbrev SealsBy : Tek → ℕ → List ℕ → Type 0
     SealsBy u n sealed₁ =
         n ≡ length (seal_under_of (key_out 16 u.pair.newer) frame) → sealed₁ ≡ overlay sealed (seal_under_of (key_out 16 u.pair.newer) frame)
-        → FrameSealGives (seal_frame_value m said frame (length sealed)) sealed (record { answer = a; number = u.pair.newer.number; width = n }) sealed₁
+        → FrameSealGives (seal_frame_value m said frame (length sealed)) sealed (record { answer = Done; number = u.pair.newer.number; width = n }) sealed₁
 
     by_machine : (n : ℕ) (sealed₁ : List ℕ) → SealsBy (machine_of m said) n sealed₁
     unfolding seal_frame_value
     by_machine n sealed₁ count put =
-        seal_done (width_of (machine_of m said).suite) (machine_of m said).pair.newer frame sealed n sealed₁ met.3 count put a
-        (seal_frame_answer_of m said (length frame) (length sealed)) seal-answer e
+        seal_done (width_of (machine_of m said).suite) (machine_of m said).pair.newer frame sealed n sealed₁ met.3 count put Done
+        (seal_frame_answer_of m said (length frame) (length sealed)) (sym e ∙ seal-answer) refl
 
     pub seal_frame_done : (n : ℕ) (sealed₁ : List ℕ) → SealsBy t n sealed₁
     seal_frame_done n sealed₁ = subst (λ (u : Tek). SealsBy u n sealed₁) (sym (et ∙ machine_known m said met.2)) (by_machine n sealed₁)
@@ -84,8 +81,8 @@ module _ (m : Modem) (direction address said : ℕ) (number : TekNumber) (frame 
   abbrev asked : Answer
   asked = open_frame_answer_of m direction address said number write (length frame) (length opened) (length out)
 
-  module _ (t : Tek) (keys : Bool) (a : Answer) (n : ℕ) (et : t ≡ known_machine m said) (ek : keys ≡ message_key_fits_of write)
-      (ea : a ≡ open_frame_asked_of m direction address said number t keys (length frame) (length opened) (length out)) (en : n ≡ answer_number_of a) where
+  module _ (t : Tek) (keys : Bool) (a : Answer) (et : t ≡ known_machine m said) (ek : keys ≡ message_key_fits_of write)
+      (ea : a ≡ open_frame_asked_of m direction address said number t keys (length frame) (length opened) (length out)) where
     open-answer : a ≡ asked
     open-answer =
         ea ∙ ap (λ (u : Tek). open_frame_asked_of m direction address said number u keys (length frame) (length opened) (length out)) et
@@ -99,40 +96,27 @@ module _ (m : Modem) (direction address said : ℕ) (number : TekNumber) (frame 
     as_called o eo c opened₁ out₁ =
         subst (λ (x : ModemOpened). Meets x c opened₁ out₁) (eo ∙ ap (λ (b : Answer). opened_for b m said number write) open-answer)
 
-    -- refused with 13
-    module _ (is : n ≡ 13) where
-      pub frame_missing_ready : (modem_fits_of m ≡ true) × ((is_known_of m said ≡ true) × ((length write ≡ 20) × (216 ≤ length out)))
-      frame_missing_ready =
-          open_frame_missing m direction address said number write (length frame) (length opened) (length out) (ap answer_number_of (sym open-answer) ∙ sym en ∙ is)
+    -- refused
+    module _ (r : Refusal) (e : a ≡ Refused r) where
+      pub frame_missing_ready : number_of r ≡ 13 → (modem_fits_of m ≡ true) × ((is_known_of m said ≡ true) × ((length write ≡ 20) × (216 ≤ length out)))
+      frame_missing_ready is =
+          open_frame_missing m direction address said number write (length frame) (length opened) (length out) (ap answer_number_of (sym open-answer ∙ e) ∙ is)
 
-      pub open_frame_missed : (c : OpenedCall) (out₁ : List ℕ) → c ≡ open_called_of (missed true a m said write) → out₁ ≡ overlay out (missed true a m said write).sent
-          → OpenFrameGives opening opened out c opened out₁
-      open_frame_missed c out₁ ec eo =
-          as_called (missed true a m said write) (opened_13 m said number write a (sym en ∙ is)) c opened out₁ (go a (sym en ∙ is) ec eo)
+      pub open_frame_refused : (c : OpenedCall) (out₁ : List ℕ) → c ≡ open_called_of (missed (eqb (number_of r) 13) (Refused r) m said write)
+          → out₁ ≡ overlay out (missed (eqb (number_of r) 13) (Refused r) m said write).sent → OpenFrameGives opening opened out c opened out₁
+      open_frame_refused c out₁ ec eo =
+          as_called (opened_for (Refused r) m said number write) (ap (λ (b : Answer). opened_for b m said number write) (sym e)) c opened out₁
+          (go (eqb (number_of r) 13) ec eo)
         where
-          go : (b : Answer) → answer_number_of b ≡ 13 → c ≡ open_called_of (missed true b m said write) → out₁ ≡ overlay out (missed true b m said write).sent
-              → Meets (missed true b m said write) c opened out₁
-          go Done q e f = absurd (omega (arith, q))
-          go (Refused r) q e f = (e, refl, f)
-
-    -- any other refusal
-    pub open_frame_refused : (n ≡ 13 → ⊥) → (n ≡ 0 → ⊥) → (next : Modem) (c : OpenedCall) → next ≡ counted_by_of n m → c ≡ opened_call_of a next 0 0
-        → OpenFrameGives opening opened out c opened out
-    open_frame_refused not-13 not-0 next c ex ec =
-        as_called (missed false a m said write) (opened_other m said number write a (λ e. not-13 (en ∙ e)) (λ e. not-0 (en ∙ e))) c opened out
-        (go a (λ e. not-0 (en ∙ e)) (ec ∙ ap (λ (x : Modem). opened_call_of a x 0 0) (ex ∙ ap (λ (k : ℕ). counted_by_of k m) en)))
-      where
-        go : (b : Answer) → (answer_number_of b ≡ 0 → ⊥) → c ≡ opened_call_of b (counted_by_of (answer_number_of b) m) 0 0 → Meets (missed false b m said write) c opened out
-        go Done z e = absurd (z refl)
-        go (Refused r) z e = (e, refl, refl)
+          go : (b : Bool) → c ≡ open_called_of (missed b (Refused r) m said write) → out₁ ≡ overlay out (missed b (Refused r) m said write).sent
+              → Meets (missed b (Refused r) m said write) c opened out₁
+          go true ec eo = (ec, refl, eo)
+          go false ec eo = (ec, refl, eo)
 
     -- opened
-    module _ (is : n ≡ 0) where
-      open_is : a ≡ Done
-      open_is = number_done a (sym en ∙ is)
-
+    module _ (e : a ≡ Done) where
       passed : (can_open_of m said number ≡ true) × (width_of (machine_of m said).suite ≡ 16) × (12 ≤ length frame) × (length frame ≤ length opened) × (is_known_of m said ≡ true)
-      passed = open_frame_met m direction address said number write (length frame) (length opened) (length out) (sym open-answer ∙ open_is)
+      passed = open_frame_met m direction address said number write (length frame) (length opened) (length out) (sym open-answer ∙ e)
 
       machine_is : t ≡ machine_of m said
       machine_is = et ∙ machine_known m said passed.4
@@ -142,16 +126,15 @@ module _ (m : Modem) (direction address said : ℕ) (number : TekNumber) (frame 
           subst (λ (u : Tek). (opens (pair_opening_of m.clock number u.pair) ≡ true) × (width_of u.suite ≡ 16) × (12 ≤ length frame) × (length frame ≤ length opened)) (sym machine_is)
           (passed.0, passed.1, passed.2, passed.3)
 
-      pub open_frame_done : (next : Modem) (k : ℕ) (c : OpenedCall) (opened₁ : List ℕ) → next ≡ counted_by_of n m
-          → k ≡ length (open_under_of (machine_out m.clock number t) frame) → c ≡ opened_call_of a next k 0
+      pub open_frame_done : (next : Modem) (k : ℕ) (c : OpenedCall) (opened₁ : List ℕ) → next ≡ counted_by_of 0 m
+          → k ≡ length (open_under_of (machine_out m.clock number t) frame) → c ≡ opened_call_of Done next k 0
           → opened₁ ≡ overlay opened (open_under_of (machine_out m.clock number t) frame)
           → OpenFrameGives opening opened out c opened₁ out
       open_frame_done next k c opened₁ ex ek ec eo =
           let under : List ℕ = open_under_of (machine_out m.clock number (machine_of m said)) frame in
           let same : open_under_of (machine_out m.clock number t) frame ≡ under = ap (λ (u : Tek). open_under_of (machine_out m.clock number u) frame) machine_is in
-          as_called (opened_for Done m said number write) (ap (λ (b : Answer). opened_for b m said number write) (sym open_is)) c opened₁ out (
-            ec ∙ ap (λ (b : Answer). opened_call_of b next k 0) open_is
-                ∙ ap (λ (x : Modem). opened_call_of Done x k 0) (ex ∙ ap (λ (j : ℕ). counted_by_of j m) is)
+          as_called (opened_for Done m said number write) (ap (λ (b : Answer). opened_for b m said number write) (sym e)) c opened₁ out (
+            ec ∙ ap (λ (x : Modem). opened_call_of Done x k 0) ex
                 ∙ ap (λ (x : ℕ). opened_call_of Done (counted_by_of 0 m) x 0) (ek ∙ ap length same),
             eo ∙ ap (overlay opened) same,
             refl,

@@ -1,13 +1,19 @@
 -- What opening hands back at the modem, and the machine that its code asks.
 use Rattle.std.specs.Prelude.{List, ◌≡◌, cond, ℕ, length}
 use Rattle.key_traffic.specs.Octets.{overlay}
-use Rattle.questions.specs.declared.refusal.Answer.{Answer}
+use Rattle.questions.specs.Answer.{Answer, Refused}
+use Rattle.questions.specs.declared.refusal.Refusal.{Refusal}
+use Rattle.key_traffic.specs.declared.sealing.SealedCall.{SealedCall}
 use Rattle.modem_tek.specs.declared.tek.Tek.{Tek}
 use Rattle.modem_steps.specs.declared.state.Modem.{Modem}
 use Rattle.modem_steps.specs.State.{no_tek_of}
 use Rattle.modem_receive.specs.Receive.{is_known_of}
 use Rattle.modem_frames.specs.declared.rules.OpenedCall.{OpenedCall}
 use Rattle.modem_frames.specs.Frames.{machine_of, ModemOpened}
+
+-- A sealing that is refused gives no key
+abbrev pub not_sealed_of : Refusal → SealedCall
+not_sealed_of r = record { answer = Refused r; number = record { 0 = 0 }; width = 0 }
 
 -- The width is that of the octets written
 abbrev pub opened_call_of : Answer → Modem → ℕ → ℕ → OpenedCall

@@ -1,8 +1,7 @@
 -- Questions 13 and 14 of a pair of keys, and the counts of frames, at the modem.
 use Rattle.std.specs.Prelude.{Bool, cond, ◌&&◌, ℕ, ltb, eqb}
 use Rattle.key_traffic.specs.declared.numbers.TekNumber.{TekNumber}
-use Rattle.key_traffic.specs.declared.frame.Opening.{Opening}
-use Rattle.key_traffic.specs.declared.frame.Opening.TheVariants.{ByNeither}
+use Rattle.key_traffic.specs.Opening.{Opening, ByNeither}
 use Rattle.key_traffic.specs.Frame.{opening_of, opens}
 use Rattle.key_traffic.specs.Sealing.{one_more_of, counted_as}
 use Rattle.modem_tek.specs.declared.parts.Pair.{Pair}

@@ -2,8 +2,7 @@
 use Rattle.std.specs.Prelude.{Bool, cond, ◌&&◌, List, [], ◌∷◌, ℕ, leb, eqb}
 use Rattle.key_traffic.specs.Addresses.{said_fits_of, address_fits_of}
 use Rattle.key_traffic.specs.declared.numbers.TekNumber.{TekNumber}
-use Rattle.questions.specs.declared.refusal.Answer.{Answer}
-use Rattle.questions.specs.declared.refusal.Answer.TheVariants.{Done, Refused}
+use Rattle.questions.specs.Answer.{Answer, Done, Refused}
 use Rattle.questions.specs.declared.refusal.Refusal.TheVariants.{OutOfLimits, WrongLength, UnknownSaid, NoKeyForFrame, NoKeyToSeal}
 use Rattle.key_traffic.specs.Numbers.{tek_in_range_of}
 use Rattle.key_traffic.specs.Suites.{width_of}
@@ -27,6 +26,11 @@ machine_of m said = slot_at m (slot_of_said_of m said)
 -- The octets that the frame decision on a machine's pair gives
 abbrev pub machine_out : ℕ → TekNumber → Tek → KeyOut
 machine_out clock number t = opened_by_of (pair_opening_of clock number t.pair) (width_of t.suite) t.pair.older t.pair.newer
+
+-- Question 1 of an opening. A frame comes down to the modem, direction 1
+abbrev pub frame_fits_of : Modem → ℕ → ℕ → ℕ → TekNumber → Bool
+frame_fits_of m direction address said number =
+    modem_fits_of m && eqb direction 1 && address_fits_of address && said_fits_of said && tek_in_range_of number
 
 -- The answers, asked of the SAID's machine: 1, 2, 10 and 14 of a sealing, 1, 2, 10 and 13 of an opening. A frame comes down to the modem,
 -- direction 1; its address is the modem's own. `keys` says whether the message key has its length

@@ -1,11 +1,13 @@
 // Sealing and opening a frame at the modem. Both ask their questions in document 01's order and have no `requires`.
-ghost use Rattle.std.specs.Prelude.{◌≡◌, true, ◌≤◌, length};
+ghost use Rattle.std.specs.Prelude.{◌≡◌, true, ◌≤◌, length, eqb};
+ghost use Rattle.questions.specs.Answer.{Refused};
+ghost use Rattle.questions.specs.Refusal.{number_of};
 ghost use Rattle.key_traffic.specs.Octets.{overlay};
 ghost use Rattle.key_traffic.specs.Sealing.{SealGives};
 ghost use Rattle.modem_receive.specs.Receive.{is_known_of};
 ghost use Rattle.modem_limits.specs.Limits.{modem_fits_of};
-ghost use Rattle.modem_frames.specs.Frames.{seal_of, missed, open_of, machine_out, seal_asked_of, open_asked_of};
-ghost use Rattle.modem_frames.specs.FrameCalled.{opened_call_of, open_called_of, known_machine, OpenGives};
+ghost use Rattle.modem_frames.specs.Frames.{seal_of, missed, open_of, machine_out, frame_fits_of, seal_asked_of, open_asked_of};
+ghost use Rattle.modem_frames.specs.FrameCalled.{not_sealed_of, opened_call_of, open_called_of, known_machine, OpenGives};
 
 use crate::rules::{OpenedCall, can_open, can_seal, counted, pair_opening};
 use key_traffic::frame::DOWN;
@@ -22,17 +24,15 @@ use modem_steps::state::{Modem, no_tek, start};
 use modem_tek::tek::Tek;
 use modem_transitions::states::TEK_EVENT_INVALID;
 use questions::limits::{ADDRESS_BOUND, SAID_MAX};
-use questions::refusal::{Answer, DONE, NO_KEY_FOR_FRAME, Refusal, answer_number, ask, is_done};
+use questions::refusal::{Answer, DONE, NO_KEY_FOR_FRAME, Refusal, ask};
 
 // The machine of a SAID; one that holds nothing where the SAID is not known.
+#[tactic(auto, unfolding(crate::specs::FrameCalled::known_machine))]
 pub fn machine_of(m: Modem, said: u16) -> Tek
     ensures { result ≡ known_machine m said }
 {
     let i = slot_of_said(m, said);
-    if NO_SLOT <= i {
-        return no_tek();
-    }
-    m.teks[i]
+    if i < NO_SLOT { m.teks[i] } else { no_tek() }
 }
 
 pub fn is_known(m: Modem, said: u16) -> bool
@@ -41,20 +41,33 @@ pub fn is_known(m: Modem, said: u16) -> bool
     slot_of_said(m, said) < NO_SLOT
 }
 
+// Question 1 of an opening, of keys or of octets.
+pub fn frame_fits(m: Modem, direction: u8, address: u64, said: u16, number: TekNumber) -> bool
+    ensures { result ≡ frame_fits_of m direction address said number }
+{
+    modem_fits(m)
+        & (direction == DOWN)
+        & (address < ADDRESS_BOUND)
+        & (said <= SAID_MAX)
+        & tek_in_range(number)
+}
+
 // All questions of `seal`; `t` is the SAID's machine, and the last two are the lengths of the lent slices.
+#[tactic(auto, unfolding(crate::specs::Frames::seal_asked_of))]
 fn seal_answer(m: Modem, said: u16, t: Tek, tek: usize, vector: usize) -> Answer
     ensures { result ≡ seal_asked_of m said t tek vector }
 {
-    let pair = t.pair;
-    let q1 = modem_fits(m) & (said <= SAID_MAX);
-    let q2 = (KEY_OCTETS <= tek) & (KEY_OCTETS <= vector);
-    let a14 = ask(can_seal(m.clock, pair), Refusal::NoKeyToSeal, Answer::Done);
-    let a10 = ask(is_known(m, said), Refusal::UnknownSaid, a14);
-    let a2 = ask(q2, Refusal::WrongLength, a10);
-    ask(q1, Refusal::OutOfLimits, a2)
+    ask(modem_fits(m) & (said <= SAID_MAX), Refusal::OutOfLimits)?;
+    ask(
+        (KEY_OCTETS <= tek) & (KEY_OCTETS <= vector),
+        Refusal::WrongLength,
+    )?;
+    ask(is_known(m, said), Refusal::UnknownSaid)?;
+    ask(can_seal(m.clock, t.pair), Refusal::NoKeyToSeal)
 }
 
 // All questions of `open`; `keys` says whether the message key has its length.
+#[tactic(auto, unfolding(crate::specs::Frames::open_asked_of))]
 fn open_answer(
     m: Modem,
     direction: u8,
@@ -69,22 +82,19 @@ fn open_answer(
 ) -> Answer
     ensures { result ≡ open_asked_of m direction address said number t keys tek vector lent }
 {
-    let pair = t.pair;
-    let q1 = modem_fits(m)
-        & (direction == DOWN)
-        & (address < ADDRESS_BOUND)
-        & (said <= SAID_MAX)
-        & tek_in_range(number);
-    let q2 = keys & (KEY_OCTETS <= tek) & (KEY_OCTETS <= vector) & (SENT_OCTETS <= lent);
-    let q10 = (address == m.address) & is_known(m, said);
-    let a13 = ask(
-        can_open(m.clock, number, pair),
-        Refusal::NoKeyForFrame,
-        Answer::Done,
-    );
-    let a10 = ask(q10, Refusal::UnknownSaid, a13);
-    let a2 = ask(q2, Refusal::WrongLength, a10);
-    ask(q1, Refusal::OutOfLimits, a2)
+    ask(
+        frame_fits(m, direction, address, said, number),
+        Refusal::OutOfLimits,
+    )?;
+    ask(
+        keys & (KEY_OCTETS <= tek) & (KEY_OCTETS <= vector) & (SENT_OCTETS <= lent),
+        Refusal::WrongLength,
+    )?;
+    ask(
+        (address == m.address) & is_known(m, said),
+        Refusal::UnknownSaid,
+    )?;
+    ask(can_open(m.clock, number, t.pair), Refusal::NoKeyForFrame)
 }
 
 // The octets of the key of a machine that opens a frame, where one does; how many of each is handed back.
@@ -100,22 +110,29 @@ fn put_machine_out(
         × ((tek.new ≡ overlay tek.old (machine_out clock number t).tek)
         × (vector.new ≡ overlay vector.old (machine_out clock number t).vector)) }
 {
-    let pair = t.pair;
-    let older = pair.older;
-    let newer = pair.newer;
-    let w = width(t.suite);
-    let by = pair_opening(clock, number, pair);
-    put_opened(by, w, older, newer, tek, vector)
+    let by = pair_opening(clock, number, t.pair);
+    put_opened(by, width(t.suite), t.pair.older, t.pair.newer, tek, vector)
+}
+
+// What a sealing hands back that is refused.
+pub fn not_sealed(no: Refusal) -> SealedCall
+    ensures { result ≡ not_sealed_of no }
+{
+    SealedCall {
+        answer: Err(no),
+        number: TekNumber(0),
+        width: 0,
+    }
 }
 
 pub fn opened_call(answer: Answer, modem: Modem, width: usize, count: usize) -> OpenedCall
     ensures { result ≡ opened_call_of answer modem width count }
 {
     OpenedCall {
-        answer: answer,
-        modem: modem,
-        width: width,
-        count: count,
+        answer,
+        modem,
+        width,
+        count,
     }
 }
 
@@ -125,13 +142,21 @@ pub fn missing(m: Modem, said: u16, a: Answer, write_key: &[u8], out: &mut [u8])
     ensures { (result ≡ open_called_of (missed true a m said write_key.now))
         × (out.new ≡ overlay out.old (missed true a m said write_key.now).sent) }
 {
-    let i = slot_of_said(m, said);
-    let w = start(m).deliver(i, TEK_EVENT_INVALID);
-    let o = w.out;
-    let after = w.modem;
-    let n = put_out(o, write_key, out);
-    let next = counted(NO_KEY_FOR_FRAME, after);
-    opened_call(a, next, 0, n)
+    let w = start(m).deliver(slot_of_said(m, said), TEK_EVENT_INVALID);
+    let n = put_out(w.out, write_key, out);
+    opened_call(a, counted(NO_KEY_FOR_FRAME, w.modem), 0, n)
+}
+
+// An opening that is refused with any number.
+pub fn not_opened(m: Modem, said: u16, no: Refusal, write_key: &[u8], out: &mut [u8]) -> OpenedCall
+    requires { number_of no ≡ 13 → (modem_fits_of m ≡ true) × ((is_known_of m said ≡ true) × ((length write_key.now ≡ 20) × (216 ≤ length out.old))) }
+    ensures { (result ≡ open_called_of (missed (eqb (number_of no) 13) (Refused no) m said write_key.now))
+        × (out.new ≡ overlay out.old (missed (eqb (number_of no) 13) (Refused no) m said write_key.now).sent) }
+{
+    match u8::from(no) {
+        NO_KEY_FOR_FRAME => missing(m, said, Err(no), write_key, out),
+        n => opened_call(Err(no), counted(n, m), 0, 0),
+    }
 }
 
 // The newer key of a SAID, to seal a frame with.
@@ -140,22 +165,13 @@ pub fn seal(m: Modem, said: u16, tek: &mut [u8], vector: &mut [u8]) -> SealedCal
         tek.old vector.old result tek.new vector.new }
 {
     let t = machine_of(m, said);
-    let a = seal_answer(m, said, t, tek.len(), vector.len());
-    if !is_done(a) {
-        return SealedCall {
-            answer: a,
-            number: TekNumber(0),
-            width: 0,
-        };
-    }
-    let pair = t.pair;
-    let k = pair.newer;
-    let number = k.number;
-    let n = put_key(k, width(t.suite), tek, vector);
-    SealedCall {
-        answer: a,
-        number: number,
-        width: n,
+    match seal_answer(m, said, t, tek.len(), vector.len()) {
+        Ok(()) => SealedCall {
+            answer: Ok(()),
+            number: t.pair.newer.number,
+            width: put_key(t.pair.newer, width(t.suite), tek, vector),
+        },
+        Err(no) => not_sealed(no),
     }
 }
 
@@ -175,26 +191,23 @@ pub fn open(
         tek.old vector.old out.old result tek.new vector.new out.new }
 {
     let t = machine_of(m, said);
-    let a = open_answer(
+    let keys = message_key_fits(write_key);
+    match open_answer(
         m,
         direction,
         address,
         said,
         number,
         t,
-        message_key_fits(write_key),
+        keys,
         tek.len(),
         vector.len(),
         out.len(),
-    );
-    let n = answer_number(a);
-    if n == NO_KEY_FOR_FRAME {
-        return missing(m, said, a, write_key, out);
+    ) {
+        Ok(()) => {
+            let w = put_machine_out(t, number, m.clock, tek, vector);
+            opened_call(Ok(()), counted(DONE, m), w, 0)
+        }
+        Err(no) => not_opened(m, said, no, write_key, out),
     }
-    let next = counted(n, m);
-    if n != DONE {
-        return opened_call(a, next, 0, 0);
-    }
-    let w = put_machine_out(t, number, m.clock, tek, vector);
-    opened_call(a, next, w, 0)
 }

@@ -23,44 +23,42 @@ pub struct OpenedCall {
 pub fn can_seal(clock: u64, p: Pair) -> bool
     ensures { result ≡ pair_seals clock p }
 {
-    let newer = p.newer;
-    if p.held != HELD {
-        return false;
-    }
-    clock < newer.deadline
+    (p.held == HELD) & (clock < p.newer.deadline)
 }
 
 // The frame decision on a pair; where it is not held, no key opens the frame.
 pub fn pair_opening(clock: u64, number: TekNumber, pair: Pair) -> Opening
     ensures { result ≡ pair_opening_of clock number pair }
 {
-    let older = pair.older;
-    let newer = pair.newer;
-    if pair.held != HELD {
-        return Opening::ByNeither;
+    if pair.held == HELD {
+        decide(pair.older, pair.newer, number, clock)
+    } else {
+        None
     }
-    decide(older, newer, number, clock)
 }
 
 // Question 13: a pair is held of which one key opens the frame.
 pub fn can_open(clock: u64, number: TekNumber, p: Pair) -> bool
     ensures { result ≡ pair_opens clock number p }
 {
-    opening_number(pair_opening(clock, number, p)) == DONE
+    pair_opening(clock, number, p).is_some()
 }
 
 // An opening that gave the number `n` adds one to the frames taken, or to those refused with 10 or 13.
+// A number, and no answer: the contract says what any `n` does.
+#[tactic(auto, unfolding(crate::specs::FrameRules::counted_by_of))]
 pub fn counted(n: u8, m: Modem) -> Modem
     ensures { result ≡ counted_by_of n m }
 {
-    let mut r = m;
-    if n == DONE {
-        r.taken = one_more(m.taken);
-        return r;
+    match n {
+        DONE => Modem {
+            taken: one_more(m.taken),
+            ..m
+        },
+        UNKNOWN_SAID | NO_KEY_FOR_FRAME => Modem {
+            refused: one_more(m.refused),
+            ..m
+        },
+        _ => m,
     }
-    if (n == UNKNOWN_SAID) | (n == NO_KEY_FOR_FRAME) {
-        r.refused = one_more(m.refused);
-        return r;
-    }
-    r
 }

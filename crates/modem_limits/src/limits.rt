@@ -21,23 +21,25 @@ use questions::limits::{
 };
 use questions::settings::{Waits, settings_fit};
 
+#[tactic(auto, unfolding(crate::specs::Limits::timer_fits_of))]
 fn timer_fits(must: bool, clock: u64, ahead: u64, t: Timer) -> bool
     ensures { result ≡ timer_fits_of must clock ahead t }
 {
     if must {
-        return (t.on == ON) & is_within(t.at, clock, ahead);
+        (t.on == ON) & is_within(t.at, clock, ahead)
+    } else {
+        (t.on == OFF) & (t.at == 0)
     }
-    (t.on == OFF) & (t.at == 0)
 }
 
+#[tactic(auto, unfolding(crate::specs::Limits::authorization_fits_of))]
 fn authorization_fits(clock: u64, a: Authorization) -> bool
     ensures { result ≡ authorization_fits_of clock a }
 {
-    let timer = a.timer;
     let must = !((a.state == AUTH_START) | (a.state == AUTH_SILENT));
     (a.state <= STATE_MAX)
         & (a.ak.0 <= KEY_NUMBER_MAX)
-        & timer_fits(must, clock, AK_REPLY_LIFE_MAX, timer)
+        & timer_fits(must, clock, AK_REPLY_LIFE_MAX, a.timer)
 }
 
 fn key_zero(k: TrafficKey) -> bool
@@ -48,95 +50,84 @@ fn key_zero(k: TrafficKey) -> bool
     (k.number.0 == 0) & (k.deadline == 0) & zero_past(tek, 0) & zero_past(vector, 0)
 }
 
+#[tactic(auto, unfolding(crate::specs::Limits::pair_held_fits_of))]
 fn pair_held_fits(must: bool, w: usize, clock: u64, p: Pair) -> bool
     ensures { result ≡ pair_held_fits_of must w clock p }
 {
-    let older = p.older;
-    let newer = p.newer;
     if must {
-        return (p.held == HELD) & pair_fits(older, newer, w, clock);
+        (p.held == HELD) & pair_fits(p.older, p.newer, w, clock)
+    } else {
+        (p.held == NOT_HELD) & key_zero(p.older) & key_zero(p.newer)
     }
-    (p.held == NOT_HELD) & key_zero(older) & key_zero(newer)
 }
 
+#[tactic(auto, unfolding(crate::specs::Limits::longest_wait_of))]
 fn longest_wait(w: Waits, state: u8) -> u64
     ensures { result ≡ longest_wait_of w state }
 {
-    if state == TEK_OP_WAIT {
-        return w.operational;
+    match state {
+        TEK_OP_WAIT => w.operational,
+        TEK_REKEY_WAIT => w.rekey,
+        _ => TEK_LIFE_MAX,
     }
-    if state == TEK_REKEY_WAIT {
-        return w.rekey;
-    }
-    TEK_LIFE_MAX
 }
 
+#[tactic(auto, unfolding(crate::specs::Limits::tek_fits_of))]
 fn tek_fits(w: Waits, clock: u64, t: Tek) -> bool
     ensures { result ≡ tek_fits_of w clock t }
 {
-    let timer = t.timer;
-    let pair = t.pair;
-    let state = t.state;
-    let must = (state == TEK_OP_WAIT) | (state == TEK_OPERATIONAL) | (state == TEK_REKEY_WAIT);
+    let must = (t.state == TEK_OP_WAIT)
+        | (t.state == TEK_OPERATIONAL)
+        | (t.state == TEK_REKEY_WAIT);
     (t.said <= SAID_MAX)
         & suite_known(t.suite)
-        & (state <= STATE_MAX)
-        & timer_fits(must, clock, longest_wait(w, state), timer)
-        & pair_held_fits(TEK_OPERATIONAL <= state, width(t.suite), clock, pair)
+        & (t.state <= STATE_MAX)
+        & timer_fits(must, clock, longest_wait(w, t.state), t.timer)
+        & pair_held_fits(TEK_OPERATIONAL <= t.state, width(t.suite), clock, t.pair)
 }
 
+#[tactic(auto, unfolding(crate::specs::Limits::tek_zero_of))]
 fn tek_zero(t: Tek) -> bool
     ensures { result ≡ tek_zero_of t }
 {
-    let timer = t.timer;
-    let pair = t.pair;
     (t.said == 0)
         & (t.suite == 0)
         & (t.state == TEK_START)
         & (t.identifier == 0)
-        & timer_fits(false, 0, 0, timer)
-        & pair_held_fits(false, 0, 0, pair)
+        & timer_fits(false, 0, 0, t.timer)
+        & pair_held_fits(false, 0, 0, t.pair)
 }
 
+#[tactic(auto, unfolding(crate::specs::Limits::slot_fits_of))]
 fn slot_fits(m: Modem, i: usize) -> bool
     requires { i < 4 }
     ensures { result ≡ slot_fits_of m i }
 {
-    let t = m.teks[i];
-    let settings = m.settings;
-    let waits = settings.waits;
     if i < m.used {
-        return tek_fits(waits, m.clock, t);
+        tek_fits(m.settings.waits, m.clock, m.teks[i])
+    } else {
+        tek_zero(m.teks[i])
     }
-    tek_zero(t)
 }
 
+// Each by its place: `all_apart` takes four SAIDs.
 fn saids_differ(n: usize, teks: [Tek; SAIDS_MAX]) -> bool
     ensures { result ≡ different (saids_of_teks (take n teks)) }
 {
-    let a = teks[0];
-    let b = teks[1];
-    let c = teks[2];
-    let d = teks[3];
-    all_apart(n, a.said, b.said, c.said, d.said)
+    all_apart(n, teks[0].said, teks[1].said, teks[2].said, teks[3].said)
 }
 
 // Question 1 of all that a modem holds.
 pub fn modem_fits(m: Modem) -> bool
     ensures { result ≡ modem_fits_of m }
 {
-    let settings = m.settings;
-    let authorization = m.authorization;
     let teks = m.teks;
-    settings_fit(settings)
+    settings_fit(m.settings)
         & (m.clock <= CLOCK_MAX)
         & (m.address < ADDRESS_BOUND)
         & (m.said <= SAID_MAX)
-        & authorization_fits(m.clock, authorization)
+        & authorization_fits(m.clock, m.authorization)
         & (m.used <= SAIDS_MAX)
-        & slot_fits(m, 0)
-        & slot_fits(m, 1)
-        & slot_fits(m, 2)
-        & slot_fits(m, 3)
+        & (0..SAIDS_MAX).all(|i| slot_fits(m, i))
         & saids_differ(m.used, teks)
 }

@@ -1,16 +1,16 @@
 -- Laws of what the modem asks of a message's fields, by its code, and of what a message that is taken does.
-use mathlib.Core.Path.{◌≡◌, refl, ◌∙◌, ap}
+use mathlib.Core.Path.{◌≡◌, refl}
 use mathlib.Core.Bool.{Bool, true, false, ◌&&◌, ◌||◌, not, cond}
 use Prim.Native.Nat.{ℕ, ◌+◌, ◌≤◌, ◌<◌}
 use native.Mathlib.Omega.{arith}
-use lib.Dec.{eqb, ltb}
-use borrow.Author.Tests.{ltb-true, le-ltb, lt-ltb, ne_eqb, eq-eqb, eqb-true, eqb-false}
+use lib.Dec.{eqb}
+use borrow.Author.Tests.{ltb-true, lt-ltb, ne_eqb, eq-eqb, eqb-true, eqb-false}
 use Rattle.key_traffic.specs.Suites.{width_of}
 use Rattle.message_rules.specs.declared.fields.Fields.{Fields}
 use Rattle.modem_steps.specs.declared.state.Modem.{Modem}
 use Rattle.modem_steps.specs.declared.state.Progress.{Progress}
 use Rattle.modem_steps.specs.State.{slot_at, starting}
-use Rattle.modem_steps.specs.Slots.{deliver, deliver_reply_of, slot_of_said_of, is_waiting_of, slot_asking_of}
+use Rattle.modem_steps.specs.Slots.{deliver, deliver_reply_of, slot_of_said_of}
 use Rattle.modem_reply.specs.Replied.{replied}
 use Rattle.modem_receive.specs.Events.{rejected, invalidated}
 use Rattle.modem_receive.specs.Receive.{is_known_of, params_wide, widths_fit_of, said_known_of, auth_waits, tek_waits, identifier_fits_of, received}
@@ -22,12 +22,6 @@ in-range a c low high = go (eqb c a) refl
     go : (b : Bool) → eqb c a ≡ b → (b || eqb c (a + 1)) ≡ true
     go true e = refl
     go false e = eq-eqb c (a + 1) (omega (arith, low, high, eqb-false c a e))
-
-pub below_range : (a c : ℕ) → c < a → (eqb c a || eqb c (a + 1)) ≡ false
-below_range a c low = rw (ne_eqb c a (λ e. omega (arith, e, low)), ne_eqb c (a + 1) (λ e. omega (arith, e, low)))
-
-pub above_range : (a c : ℕ) → a + 2 ≤ c → (eqb c a || eqb c (a + 1)) ≡ false
-above_range a c high = rw (ne_eqb c a (λ e. omega (arith, e, high)), ne_eqb c (a + 1) (λ e. omega (arith, e, high)))
 
 asked : (a b k : Bool) → a ≡ true → (not (a || b) || k) ≡ true → k ≡ true
 asked true b k p e = e
@@ -44,10 +38,6 @@ module _ (m : Modem) (f : Fields) where
   unfolding widths_fit_of
   widths_other other = simp (ne_eqb f.code 8 other)
 
-  pub widths_unknown : f.code ≡ 8 → 4 ≤ slot_of_said_of m f.said → true ≡ widths_fit_of m f
-  unfolding widths_fit_of
-  widths_unknown is over = simp (eq-eqb f.code 8 is, le-ltb (slot_of_said_of m f.said) 4 over)
-
   pub widths_known : f.code ≡ 8 → slot_of_said_of m f.said < 4
       → (params_wide (width_of (slot_at m (slot_of_said_of m f.said)).suite) f.older && params_wide (width_of (slot_at m (slot_of_said_of m f.said)).suite) f.newer) ≡ widths_fit_of m f
   unfolding widths_fit_of
@@ -63,66 +53,23 @@ module _ (m : Modem) (f : Fields) where
     unfolding identifier_fits_of
     identifier_tek e = simp (no-auth, e)
 
-    pub identifier_invalid : (eqb f.code 8 || eqb f.code 9) ≡ false → f.code ≡ 10 → (eqb f.identifier 0 || ltb (slot_asking_of m f.identifier) 4) ≡ identifier_fits_of m f
-    unfolding identifier_fits_of
-    identifier_invalid no-tek is = simp (no-auth, no-tek, eq-eqb f.code 10 is)
-
-    pub identifier_zero : (eqb f.code 8 || eqb f.code 9) ≡ false → (f.code ≡ 10 → ⊥) → eqb f.identifier 0 ≡ identifier_fits_of m f
-    unfolding identifier_fits_of
-    identifier_zero no-tek other = simp (no-auth, no-tek, ne_eqb f.code 10 other)
-
   -- ---- what a message does, by its code
   pub received_5 : f.code ≡ 5 → replied m f ≡ received m f
   unfolding received
   received_5 e = simp (eq-eqb f.code 5 e)
 
   module _ (not-5 : f.code ≡ 5 → ⊥) where
-    pub received_6 : f.code ≡ 6 → rejected m f.error ≡ received m f
-    unfolding received
-    received_6 e = simp (ne_eqb f.code 5 not-5, eq-eqb f.code 6 e)
-
     module _ (not-6 : f.code ≡ 6 → ⊥) where
       pub received_8 : f.code ≡ 8 → deliver_reply_of (starting m) (slot_of_said_of m f.said) 8 f.older f.newer ≡ received m f
       unfolding received
       received_8 e = simp (ne_eqb f.code 5 not-5, ne_eqb f.code 6 not-6, eq-eqb f.code 8 e)
 
       module _ (not-8 : f.code ≡ 8 → ⊥) where
-        pub received_9 : f.code ≡ 9 → deliver (starting m) (slot_of_said_of m f.said) 9 ≡ received m f
-        unfolding received
-        received_9 e = simp (ne_eqb f.code 5 not-5, ne_eqb f.code 6 not-6, ne_eqb f.code 8 not-8, eq-eqb f.code 9 e)
-
         module _ (not-9 : f.code ≡ 9 → ⊥) where
-          pub received_10 : f.code ≡ 10 → invalidated m f.identifier ≡ received m f
-          unfolding received
-          received_10 e = simp (ne_eqb f.code 5 not-5, ne_eqb f.code 6 not-6, ne_eqb f.code 8 not-8, ne_eqb f.code 9 not-9, eq-eqb f.code 10 e)
-
           pub received_11 : (f.code ≡ 10 → ⊥) → deliver (starting m) (slot_of_said_of m f.said) 5 ≡ received m f
           unfolding received
           received_11 other =
               simp (ne_eqb f.code 5 not-5, ne_eqb f.code 6 not-6, ne_eqb f.code 8 not-8, ne_eqb f.code 9 not-9, ne_eqb f.code 10 other)
-
--- ---- the same by other names for the slot and for the modem on its way
-module _ (m : Modem) (f : Fields) (w : Progress) (i : ℕ) (r : Progress) (ew : w ≡ starting m) (ei : i ≡ slot_of_said_of m f.said) where
-  pub deliver_there : (event : ℕ) → r ≡ deliver w i event → r ≡ deliver (starting m) (slot_of_said_of m f.said) event
-  deliver_there event e = e ∙ ap (λ (v : Progress). deliver v i event) ew ∙ ap (λ (k : ℕ). deliver (starting m) k event) ei
-
-  pub replied_there : r ≡ deliver_reply_of w i 8 f.older f.newer → r ≡ deliver_reply_of (starting m) (slot_of_said_of m f.said) 8 f.older f.newer
-  replied_there e =
-      e ∙ ap (λ (v : Progress). deliver_reply_of v i 8 f.older f.newer) ew ∙ ap (λ (k : ℕ). deliver_reply_of (starting m) k 8 f.older f.newer) ei
-
-pub waits_there : (m : Modem) (said identifier i : ℕ) → i ≡ slot_of_said_of m said → (b : Bool) → b ≡ is_waiting_of (slot_at m i)
-    → (b && eqb (slot_at m i).identifier identifier) ≡ tek_waits m said identifier
-waits_there m said identifier i ei b e =
-    ap (λ (c : Bool). c && eqb (slot_at m i).identifier identifier) e
-    ∙ ap (λ (k : ℕ). is_waiting_of (slot_at m k) && eqb (slot_at m k).identifier identifier) ei
-
-module _ (m : Modem) (f : Fields) (i : ℕ) (ei : i ≡ slot_of_said_of m f.said) where
-  pub wide_there : (w : ℕ) (p q : Bool) → w ≡ width_of (slot_at m i).suite → p ≡ params_wide w f.older → q ≡ params_wide w f.newer
-      → (p && q) ≡ (params_wide (width_of (slot_at m (slot_of_said_of m f.said)).suite) f.older && params_wide (width_of (slot_at m (slot_of_said_of m f.said)).suite) f.newer)
-  wide_there w p q ew ep eq =
-      ap (λ (b : Bool). b && q) ep ∙ ap (λ (b : Bool). params_wide w f.older && b) eq
-      ∙ ap (λ (k : ℕ). params_wide k f.older && params_wide k f.newer) ew
-      ∙ ap (λ (k : ℕ). params_wide (width_of (slot_at m k).suite) f.older && params_wide (width_of (slot_at m k).suite) f.newer) ei
 
 -- what holds of each code's work holds of the work of a message that is taken
 pub by_received : (m : Modem) (f : Fields) (P : Progress → Type 0)

@@ -15,28 +15,32 @@ use modem_transitions::transitions::authorization_next;
 // The least Identifier of an Authorization Invalid that answers a request; with 0 it is unsolicited.
 const SOLICITED_MIN: u8 = 1;
 
+#[tactic(auto, unfolding(crate::specs::Events::reject_event_of))]
 fn reject_event(error: u8) -> u8
     ensures { result ≡ reject_event_of error }
 {
-    if error == ERROR_PERMANENT {
-        return AUTH_EVENT_PERMANENT_REJECT;
+    match error {
+        ERROR_PERMANENT => AUTH_EVENT_PERMANENT_REJECT,
+        _ => AUTH_EVENT_REJECT,
     }
-    AUTH_EVENT_REJECT
 }
 
 // An Authorization Reject.
+#[tactic(auto, unfolding(crate::specs::Events::rejected))]
 pub fn rejected(m: Modem, error: u8) -> Progress
     requires { Ready m }
     ensures { result ≡ rejected m error }
 {
     let w = start(m).plain_event(reject_event(error));
     if m.authorization.state == AUTH_REAUTH_WAIT {
-        return w.deliver_all(TEK_EVENT_STOP);
+        w.deliver_all(TEK_EVENT_STOP)
+    } else {
+        w
     }
-    w
 }
 
 // An Authorization Invalid.
+#[tactic(auto, unfolding(crate::specs::Events::invalidated))]
 pub fn invalidated(m: Modem, identifier: u8) -> Progress
     requires { Ready m }
     ensures { result ≡ invalidated m identifier }
@@ -46,11 +50,9 @@ pub fn invalidated(m: Modem, identifier: u8) -> Progress
     }
     let slot = slot_asking(m, identifier);
     let w = start(m).plain_event(AUTH_EVENT_INVALID);
-    if identifier < SOLICITED_MIN {
-        return w;
+    if (SOLICITED_MIN <= identifier) & (slot < NO_SLOT) {
+        w.deliver(slot, TEK_EVENT_PEND)
+    } else {
+        w
     }
-    if slot < NO_SLOT {
-        return w.deliver(slot, TEK_EVENT_PEND);
-    }
-    w
 }

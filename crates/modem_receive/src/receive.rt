@@ -12,7 +12,7 @@ use message_rules::codes::{
 };
 use message_rules::fields::{Fields, Params};
 use modem_reply::replied::replied;
-use modem_steps::slots::{NO_SLOT, is_waiting, slot_asking, slot_of_said};
+use modem_steps::slots::{NO_SLOT, is_asking, slot_asking, slot_of_said};
 use modem_steps::state::{Modem, Progress, start};
 use modem_transitions::states::{
     AUTH_REAUTH_WAIT, AUTH_WAIT, TEK_EVENT_INVALID, TEK_EVENT_KEY_REJECT, TEK_EVENT_KEY_REPLY,
@@ -23,7 +23,7 @@ fn is_of_said(code: u8) -> bool
     ensures { result ≡ of_said_of code }
 {
     match code {
-        CODE_KEY_REPLY..=CODE_KEY_REJECT | CODE_TEK_INVALID => true,
+        CODE_KEY_REPLY | CODE_KEY_REJECT | CODE_TEK_INVALID => true,
         _ => false,
     }
 }
@@ -31,28 +31,24 @@ fn is_of_said(code: u8) -> bool
 fn are_wide(w: usize, p: Params) -> bool
     ensures { result ≡ params_wide w p }
 {
-    let tek = p.tek;
-    let vector = p.vector;
-    (tek.width == w) & (vector.width == w)
+    (p.tek.width == w) & (p.vector.width == w)
 }
 
 // Question 9: the widths of the SAID's suite, where it is known.
+#[tactic(auto, unfolding(crate::specs::Receive::widths_fit_of))]
 pub fn widths_fit(m: Modem, f: Fields) -> bool
     ensures { result ≡ widths_fit_of m f }
 {
     let i = slot_of_said(m, f.said);
-    if f.code != CODE_KEY_REPLY {
+    if (f.code != CODE_KEY_REPLY) | (NO_SLOT <= i) {
         return true;
     }
-    if NO_SLOT <= i {
-        return true;
-    }
-    let t = m.teks[i];
-    let w = width(t.suite);
+    let w = width(m.teks[i].suite);
     are_wide(w, f.older) & are_wide(w, f.newer)
 }
 
 // Question 10: a message that names a SAID names one that has a slot.
+#[tactic(auto, unfolding(crate::specs::Receive::said_known_of))]
 pub fn said_known(m: Modem, f: Fields) -> bool
     ensures { result ≡ said_known_of m f }
 {
@@ -71,27 +67,27 @@ fn is_tek_waiting(m: Modem, said: u16, identifier: u8) -> bool
     requires { slot_of_said_of m said < 4 }
     ensures { result ≡ tek_waits m said identifier }
 {
-    let i = slot_of_said(m, said);
-    let t = m.teks[i];
-    is_waiting(t) & (t.identifier == identifier)
+    is_asking(m.teks[slot_of_said(m, said)], identifier)
 }
 
 // Question 11: the Identifier is that of the request that waits, or UNSOLICITED where none may.
+#[tactic(auto, unfolding(crate::specs::Receive::identifier_fits_of))]
 pub fn identifier_fits(m: Modem, f: Fields) -> bool
     requires { said_known_of m f ≡ true }
     ensures { result ≡ identifier_fits_of m f }
 {
-    let code = f.code;
-    match code {
-        CODE_AUTHORIZATION_REPLY..=CODE_AUTHORIZATION_REJECT => is_auth_waiting(m, f.identifier),
-        CODE_KEY_REPLY..=CODE_KEY_REJECT => is_tek_waiting(m, f.said, f.identifier),
-        CODE_AUTHORIZATION_INVALID => (f.identifier == UNSOLICITED)
-            | (slot_asking(m, f.identifier) < NO_SLOT),
+    match f.code {
+        CODE_AUTHORIZATION_REPLY | CODE_AUTHORIZATION_REJECT => is_auth_waiting(m, f.identifier),
+        CODE_KEY_REPLY | CODE_KEY_REJECT => is_tek_waiting(m, f.said, f.identifier),
+        CODE_AUTHORIZATION_INVALID => {
+            (f.identifier == UNSOLICITED) | (slot_asking(m, f.identifier) < NO_SLOT)
+        }
         _ => f.identifier == UNSOLICITED,
     }
 }
 
 // Question 12: where the message carries a digest, it holds.
+#[tactic(auto, unfolding(crate::specs::Receive::digest_holds_of))]
 pub fn digest_holds(digest: bool, f: Fields) -> bool
     ensures { result ≡ digest_holds_of digest f }
 {
@@ -99,13 +95,13 @@ pub fn digest_holds(digest: bool, f: Fields) -> bool
 }
 
 // A message that is taken. Its fields are within the limits of a reading, and of 8, 9 and 11 the SAID is known.
+#[tactic(auto, unfolding(crate::specs::Receive::received))]
 pub fn received(m: Modem, f: Fields) -> Progress
     requires { Ready m × Takeable m f }
     ensures { result ≡ received m f }
 {
-    let code = f.code;
     let i = slot_of_said(m, f.said);
-    match code {
+    match f.code {
         CODE_AUTHORIZATION_REPLY => replied(m, f),
         CODE_AUTHORIZATION_REJECT => rejected(m, f.error),
         CODE_KEY_REPLY => start(m).deliver_reply(i, TEK_EVENT_KEY_REPLY, f.older, f.newer),

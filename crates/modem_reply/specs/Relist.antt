@@ -30,9 +30,13 @@ placed w s =
 unfoldable pub appended : Progress → TekStep → Progress
 appended w s = cond (leb 4 w.modem.used) w (placed w s)
 
+-- A machine takes an event and goes to the next slot
+abbrev pub joined_of : Progress → Tek → ℕ → Progress
+joined_of w t event = appended w (tek_step_of t event (tek_context_of w.modem) no_params_of no_params_of)
+
 -- A machine that survives gets Complete
 unfoldable pub kept_if_of : Bool → Progress → Tek → Progress
-kept_if_of goes w t = cond goes (appended w (tek_step_of t 4 (tek_context_of w.modem) no_params_of no_params_of)) w
+kept_if_of goes w t = cond goes (joined_of w t 4) w
 
 unfoldable pub kept_one_of : Fields → Modem → Progress → ℕ → Progress
 kept_one_of f old w i =
@@ -48,7 +52,7 @@ abbrev pub fresh_tek_of : Descriptor → Tek
 fresh_tek_of d = record { said = d.said; suite = d.suite; state = A; identifier = 0; timer = off; pair = no_pair_of }
 
 unfoldable pub started_if_of : Bool → Progress → Descriptor → Progress
-started_if_of new w d = cond new (appended w (tek_step_of (fresh_tek_of d) 2 (tek_context_of w.modem) no_params_of no_params_of)) w
+started_if_of new w d = cond new (joined_of w (fresh_tek_of d) 2) w
 
 unfoldable pub started_one_of : Fields → Progress → ℕ → Progress
 started_one_of f w i =

@@ -9,15 +9,15 @@ use modem_steps::state::{Modem, Progress, start};
 use modem_transitions::states::{AUTH_EVENT_REPLY, AUTH_REAUTH_WAIT};
 
 // An Authorization Reply, in B or D.
+#[tactic(auto, unfolding(crate::specs::Replied::replied))]
 pub fn replied(m: Modem, f: Fields) -> Progress
     requires { Ready m × (f.life ≤ 12096000) }
     ensures { result ≡ replied m f }
 {
-    let a = m.authorization;
-    let ak = f.ak;
-    let w = start(m).deliver_auth(AUTH_EVENT_REPLY, ak, f.life);
-    if a.state == AUTH_REAUTH_WAIT {
-        return relisted(w, f);
+    let w = start(m).deliver_auth(AUTH_EVENT_REPLY, f.ak, f.life);
+    if m.authorization.state == AUTH_REAUTH_WAIT {
+        relisted(w, f)
+    } else {
+        listed_anew(w, f)
     }
-    listed_anew(w, f)
 }

@@ -4,18 +4,17 @@ ghost use Rattle.modem_steps.specs.State.{Ready, with_clock_of};
 ghost use Rattle.modem_steps.specs.Clock.{clocked};
 
 use crate::state::{Modem, Progress, start};
+use questions::limits::SAIDS_MAX;
 
 // The clock goes to `t`.
+#[tactic(auto, unfolding(crate::specs::Clock::clocked, crate::specs::Clock::slots_fired_of))]
 pub fn clocked(m: Modem, t: u64) -> Progress
     requires { Ready (with_clock_of m t) }
     ensures { result ≡ clocked m t }
 {
-    let mut at = m;
-    at.clock = t;
-    start(at)
-        .auth_fired()
-        .slot_fired(0)
-        .slot_fired(1)
-        .slot_fired(2)
-        .slot_fired(3)
+    let mut w = start(Modem { clock: t, ..m }).auth_fired();
+    for i in 0..SAIDS_MAX {
+        w = w.slot_fired(i);
+    }
+    w
 }

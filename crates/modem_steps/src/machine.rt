@@ -10,48 +10,44 @@ use modem_authorization::authorization::{AuthContext, AuthStep};
 fn auth_context(m: Modem, ak: AkNumber, life: u64) -> AuthContext
     ensures { result ≡ auth_context_of m ak life }
 {
-    let settings = m.settings;
-    let waits = settings.waits;
-    let times = settings.ak;
     AuthContext {
         clock: m.clock,
-        authorize: waits.authorize,
-        reauthorize: waits.reauthorize,
-        reject: waits.reject,
-        grace: times.grace,
+        authorize: m.settings.waits.authorize,
+        reauthorize: m.settings.waits.reauthorize,
+        reject: m.settings.waits.reject,
+        grace: m.settings.ak.grace,
         said: m.said,
         counter: m.counter,
-        ak: ak,
-        life: life,
+        ak,
+        life,
     }
 }
 
 impl Progress {
     // The authorization machine has taken a step.
+    #[tactic(auto, unfolding(crate::specs::Machine::auth_stepped_of))]
     fn auth_stepped(self, s: AuthStep) -> Progress
         requires { Ready self.modem }
         ensures { (result ≡ auth_stepped_of self s) × Ready result.modem }
     {
-        let machine = s.machine;
-        let informs = s.informs;
-        let requests = s.requests;
-        let mut m = self.modem;
-        m.authorization = machine;
-        m.counter = s.counter;
-        let o = self.out;
-        let out = o.with_message(informs).with_message(requests);
-        Progress { modem: m, out: out }
+        Progress {
+            modem: Modem {
+                authorization: s.machine,
+                counter: s.counter,
+                ..self.modem
+            },
+            out: self.out.with_message(s.informs).with_message(s.requests),
+        }
     }
 
     // The authorization machine takes an event, with the number and life of a Reply's key.
+    #[tactic(auto, unfolding(crate::specs::Machine::deliver_auth_of))]
     pub fn deliver_auth(self, event: u8, ak: AkNumber, life: u64) -> Progress
         requires { Ready self.modem × (life ≤ 12096000) }
         ensures { (result ≡ deliver_auth_of self event ak life) × Ready result.modem }
     {
-        let m = self.modem;
-        let a = m.authorization;
-        let x = auth_context(m, ak, life);
-        let s = a.step(event, x);
+        let x = auth_context(self.modem, ak, life);
+        let s = self.modem.authorization.step(event, x);
         self.auth_stepped(s)
     }
 

@@ -33,14 +33,15 @@ pub struct Modem {
 // Messages that one call sends, at most.
 pub const MESSAGES_MAX: usize = 6;
 
-// The messages of one call in order: the first `count`.
+// The messages of one call in order: the first `count`. An array with its length, and no list of std's: there is no heap.
 #[derive(Clone, Copy)]
 pub struct Out {
     pub count: usize,
     pub sent: [Request; MESSAGES_MAX],
 }
 
-// The modem on its way through a call, with the messages so far.
+// The modem on its way through a call, with the messages so far. What a step asks of it, `Ready`, stands in the contracts and is no invariant: the
+// definitions and theorems make and speak of any Progress.
 #[derive(Clone, Copy)]
 pub struct Progress {
     pub modem: Modem,
@@ -59,15 +60,13 @@ pub struct Called {
 pub fn no_tek() -> Tek
     ensures { result ≡ no_tek_of }
 {
-    let timer = cleared();
-    let pair = no_pair();
     Tek {
         said: 0,
         suite: 0,
         state: TEK_START,
         identifier: 0,
-        timer: timer,
-        pair: pair,
+        timer: cleared(),
+        pair: no_pair(),
     }
 }
 
@@ -75,23 +74,20 @@ pub fn no_tek() -> Tek
 pub fn fresh(settings: Settings, address: u64, said: u16) -> Modem
     ensures { result ≡ fresh_of settings address said }
 {
-    let timer = cleared();
-    let authorization = Authorization {
-        state: AUTH_START,
-        identifier: 0,
-        ak: AkNumber(0),
-        timer: timer,
-    };
-    let t = no_tek();
     Modem {
-        settings: settings,
-        address: address,
-        said: said,
+        settings,
+        address,
+        said,
         clock: 0,
         counter: 0,
-        authorization: authorization,
+        authorization: Authorization {
+            state: AUTH_START,
+            identifier: 0,
+            ak: AkNumber(0),
+            timer: cleared(),
+        },
         used: 0,
-        teks: [t; SAIDS_MAX],
+        teks: [no_tek(); SAIDS_MAX],
         taken: 0,
         refused: 0,
     }
@@ -101,39 +97,34 @@ pub fn fresh(settings: Settings, address: u64, said: u16) -> Modem
 pub fn no_out() -> Out
     ensures { result ≡ no_out_of }
 {
-    let none = no_request();
     Out {
         count: 0,
-        sent: [none; MESSAGES_MAX],
+        sent: [no_request(); MESSAGES_MAX],
     }
 }
 
 impl Out {
     // One message more, where there is one and room for it.
+    #[tactic(auto, unfolding(crate::specs::State::with_message_of))]
     pub fn with_message(self, r: Request) -> Out
         ensures { result ≡ with_message_of self r }
     {
-        let n = self.count;
-        if r.code == CODE_NONE {
+        if (r.code == CODE_NONE) | (MESSAGES_MAX <= self.count) {
             return self;
         }
-        if MESSAGES_MAX <= n {
-            return self;
-        }
-        let mut o = self;
-        o.sent[n] = r;
-        o.count = n + 1;
-        o
+        let mut out = self;
+        out.sent[self.count] = r;
+        out.count += 1;
+        out
     }
 }
 
 // A call begins: nothing is sent yet.
-pub fn start(m: Modem) -> Progress
-    ensures { result ≡ starting m }
+pub fn start(modem: Modem) -> Progress
+    ensures { result ≡ starting modem }
 {
-    let none = no_out();
     Progress {
-        modem: m,
-        out: none,
+        modem,
+        out: no_out(),
     }
 }

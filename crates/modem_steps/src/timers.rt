@@ -10,50 +10,53 @@ use modem_transitions::states::{
 };
 use modem_transitions::timer::is_due;
 
+// Which event each machine's timer fires: one match each, and a function over both would have three numbers for parameters.
+#[tactic(auto, unfolding(crate::specs::Clock::auth_timer_event_of))]
 fn auth_timer_event(state: u8) -> u8
     ensures { result ≡ auth_timer_event_of state }
 {
-    if state == AUTH_AUTHORIZED {
-        return AUTH_EVENT_GRACE;
+    match state {
+        AUTH_AUTHORIZED => AUTH_EVENT_GRACE,
+        _ => AUTH_EVENT_TIMEOUT,
     }
-    AUTH_EVENT_TIMEOUT
 }
 
+#[tactic(auto, unfolding(crate::specs::Clock::tek_timer_event_of))]
 fn tek_timer_event(state: u8) -> u8
     ensures { result ≡ tek_timer_event_of state }
 {
-    if state == TEK_OPERATIONAL {
-        return TEK_EVENT_REFRESH;
+    match state {
+        TEK_OPERATIONAL => TEK_EVENT_REFRESH,
+        _ => TEK_EVENT_TIMEOUT,
     }
-    TEK_EVENT_TIMEOUT
 }
 
 impl Progress {
     // The authorization machine's timer fires, where it is due.
+    #[tactic(auto, unfolding(crate::specs::Clock::auth_fired_of))]
     pub fn auth_fired(self) -> Progress
         requires { Ready self.modem }
         ensures { (result ≡ auth_fired_of self) × Ready result.modem }
     {
-        let m = self.modem;
-        let a = m.authorization;
-        let timer = a.timer;
-        if is_due(timer, m.clock) {
-            return self.plain_event(auth_timer_event(a.state));
+        let a = self.modem.authorization;
+        if is_due(a.timer, self.modem.clock) {
+            self.plain_event(auth_timer_event(a.state))
+        } else {
+            self
         }
-        self
     }
 
     // The same of the TEK machine in slot `i`.
+    #[tactic(auto, unfolding(crate::specs::Clock::slot_fired_of))]
     pub fn slot_fired(self, i: usize) -> Progress
         requires { (i < 4) × Ready self.modem }
         ensures { (result ≡ slot_fired_of self i) × Ready result.modem }
     {
-        let m = self.modem;
-        let t = m.teks[i];
-        let timer = t.timer;
-        if is_due(timer, m.clock) {
-            return self.deliver(i, tek_timer_event(t.state));
+        let t = self.modem.teks[i];
+        if is_due(t.timer, self.modem.clock) {
+            self.deliver(i, tek_timer_event(t.state))
+        } else {
+            self
         }
-        self
     }
 }

@@ -6,7 +6,7 @@ use key_traffic::numbers::AkNumber;
 use key_traffic::traffic::{TrafficKey, no_key};
 use message_rules::codes::CODE_NONE;
 use message_rules::fields::Params;
-use modem_transitions::identifier::next_identifier;
+use modem_transitions::identifier::next_if;
 use modem_transitions::states::{TEK_EVENT_TIMEOUT, TEK_OP_WAIT, TEK_REKEY_WAIT};
 
 // What `held` may be.
@@ -37,11 +37,10 @@ pub struct Request {
 pub fn no_pair() -> Pair
     ensures { result ≡ no_pair_of }
 {
-    let key = no_key();
     Pair {
         held: NOT_HELD,
-        older: key,
-        newer: key,
+        older: no_key(),
+        newer: no_key(),
     }
 }
 
@@ -62,16 +61,14 @@ pub fn key_of(clock: u64, p: Params) -> TrafficKey
     requires { (clock ≤ 1000000000000) × (p.life ≤ 604800) }
     ensures { result ≡ key_of clock p }
 {
-    let tek = p.tek;
-    let vector = p.vector;
-    let tek_octets = tek.octets;
-    let vector_octets = vector.octets;
-    let number = p.number;
+    // Arrays go by way of a variable: the borrow check does not cover them straight from a field.
+    let tek = p.tek.octets;
+    let vector = p.vector.octets;
     TrafficKey {
-        number: number,
+        number: p.number,
         deadline: clock + p.life,
-        tek: tek_octets,
-        vector: vector_octets,
+        tek,
+        vector,
     }
 }
 
@@ -80,12 +77,10 @@ pub fn pair_of(clock: u64, older: Params, newer: Params) -> Pair
     requires { (clock ≤ 1000000000000) × ((older.life ≤ 604800) × (newer.life ≤ 604800)) }
     ensures { result ≡ pair_of clock older newer }
 {
-    let first = key_of(clock, older);
-    let second = key_of(clock, newer);
     Pair {
         held: HELD,
-        older: first,
-        newer: second,
+        older: key_of(clock, older),
+        newer: key_of(clock, newer),
     }
 }
 
@@ -104,11 +99,9 @@ pub fn is_new(event: u8, to: u8) -> bool
 }
 
 // The Identifier counter after a step into `to`.
+#[tactic(auto, unfolding(crate::specs::TekParts::counter_after_of))]
 pub fn counter_after(event: u8, to: u8, counter: u8) -> u8
     ensures { result ≡ counter_after_of event to counter }
 {
-    if is_new(event, to) {
-        return next_identifier(counter);
-    }
-    counter
+    next_if(is_new(event, to), counter, counter)
 }

@@ -1,5 +1,5 @@
 // The TEK machine of one SAID.
-ghost use Rattle.std.specs.Prelude.{◌≡◌, ◌+◌, ◌≤◌};
+ghost use Rattle.std.specs.Prelude.{◌≡◌, ◌≤◌, cond};
 ghost use Rattle.modem_tek.specs.Tek.{identifier_after_of, tek_timer, drops_pair, stores_pair, HasTransition, pair_after_of, tek_sends_of, tek_moved, tek_step_of, TekReady};
 
 use crate::parts::{
@@ -9,7 +9,7 @@ use key_traffic::numbers::AkNumber;
 use key_traffic::traffic::difference;
 use message_rules::codes::CODE_KEY_REQUEST;
 use message_rules::fields::Params;
-use modem_transitions::identifier::next_identifier;
+use modem_transitions::identifier::next_if;
 use modem_transitions::states::{
     BLANK, TEK_EVENT_INVALID, TEK_EVENT_KEY_REJECT, TEK_EVENT_KEY_REPLY, TEK_EVENT_STOP,
     TEK_OP_WAIT, TEK_OPERATIONAL, TEK_REKEY_WAIT,
@@ -49,20 +49,17 @@ pub struct TekStep {
     pub sends: Request,
 }
 
+#[tactic(auto, unfolding(crate::specs::Tek::tek_timer))]
 fn timer_after(to: u8, x: TekContext, newer: Params) -> Timer
     requires { (x.clock ≤ 1000000000000) × ((x.operational ≤ 600) × ((x.rekey ≤ 600) × (newer.life ≤ 604800))) }
     ensures { result ≡ tek_timer to x newer }
 {
-    if to == TEK_OP_WAIT {
-        return set_at(x.clock + x.operational);
+    match to {
+        TEK_OP_WAIT => set_at(x.clock + x.operational),
+        TEK_REKEY_WAIT => set_at(x.clock + x.rekey),
+        TEK_OPERATIONAL => set_at(x.clock + difference(newer.life, x.grace)),
+        _ => cleared(),
     }
-    if to == TEK_REKEY_WAIT {
-        return set_at(x.clock + x.rekey);
-    }
-    if to == TEK_OPERATIONAL {
-        return set_at(x.clock + difference(newer.life, x.grace));
-    }
-    cleared()
 }
 
 fn is_dropping(event: u8) -> bool
@@ -80,80 +77,75 @@ fn is_storing(event: u8, from: u8) -> bool
 }
 
 impl Tek {
+    #[tactic(auto, unfolding(crate::specs::Tek::identifier_after_of))]
     fn identifier_after(self, event: u8, to: u8, x: TekContext) -> u8
         ensures { result ≡ identifier_after_of event to self x }
     {
-        if is_new(event, to) {
-            return next_identifier(x.counter);
-        }
-        self.identifier
+        next_if(is_new(event, to), x.counter, self.identifier)
     }
 
+    #[tactic(auto, unfolding(crate::specs::Tek::pair_after_of))]
     fn pair_after(self, event: u8, clock: u64, older: Params, newer: Params) -> Pair
         requires { (clock ≤ 1000000000000) × ((older.life ≤ 604800) × ((newer.life ≤ 604800) × HasTransition event self.state)) }
         ensures { result ≡ pair_after_of event self clock older newer }
     {
         if is_dropping(event) {
-            return no_pair();
+            no_pair()
+        } else if is_storing(event, self.state) {
+            pair_of(clock, older, newer)
+        } else {
+            self.pair
         }
-        if is_storing(event, self.state) {
-            return pair_of(clock, older, newer);
-        }
-        self.pair
     }
 
+    #[tactic(auto, unfolding(crate::specs::Tek::tek_sends_of))]
     fn sends_after(self, event: u8, to: u8, x: TekContext) -> Request
         ensures { result ≡ tek_sends_of event to self x }
     {
         if is_sending(to) {
-            let ak = x.ak;
-            return Request {
+            Request {
                 code: CODE_KEY_REQUEST,
                 identifier: self.identifier_after(event, to, x),
-                ak: ak,
+                ak: x.ak,
                 said: self.said,
-            };
+            }
+        } else {
+            no_request()
         }
-        no_request()
     }
 
+    #[tactic(auto, unfolding(crate::specs::Tek::tek_moved))]
     fn moved(self, event: u8, to: u8, x: TekContext, older: Params, newer: Params) -> TekStep
         requires { TekReady x older newer × HasTransition event self.state }
         ensures { result ≡ tek_moved event to self x older newer }
     {
-        let identifier = self.identifier_after(event, to, x);
-        let timer = timer_after(to, x, newer);
-        let pair = self.pair_after(event, x.clock, older, newer);
-        let sends = self.sends_after(event, to, x);
         let machine = Tek {
-            said: self.said,
-            suite: self.suite,
             state: to,
-            identifier: identifier,
-            timer: timer,
-            pair: pair,
+            identifier: self.identifier_after(event, to, x),
+            timer: timer_after(to, x, newer),
+            pair: self.pair_after(event, x.clock, older, newer),
+            ..self
         };
         TekStep {
-            machine: machine,
+            machine,
             counter: counter_after(event, to, x.counter),
-            sends: sends,
+            sends: self.sends_after(event, to, x),
         }
     }
 
     // The machine takes an event; `older` and `newer` are a Key Reply's, and no other event uses them.
+    #[tactic(auto, unfolding(crate::specs::Tek::tek_step_of))]
     pub fn step(self, event: u8, x: TekContext, older: Params, newer: Params) -> TekStep
         requires { TekReady x older newer }
         ensures { result ≡ tek_step_of self event x older newer }
     {
-        let to = tek_next(event, self.state);
-        if to == BLANK {
-            let none = no_request();
-            return TekStep {
+        match tek_next(event, self.state) {
+            BLANK => TekStep {
                 machine: self,
                 counter: x.counter,
-                sends: none,
-            };
+                sends: no_request(),
+            },
+            to => self.moved(event, to, x, older, newer),
         }
-        self.moved(event, to, x, older, newer)
     }
 }

@@ -1,8 +1,9 @@
 -- A matrix and its list of transitions: the rule is proved over the whole table by one test that antt computes.
-use Rattle.std.proofs.Common.{◌≡◌, ℕ, zero, suc, ◌+◌, ◌-◌, ◌<◌, ◌≤◌, Bool, true, false, ◌&&◌, eqb, leb, List, [], ◌∷◌, get_or, refl, ap, ◌∙◌, ⊎_elim, le_of_suc-le-suc, not-suc-le-zero, eq-or-lt_of_le, arith, ne_eqb, eqb-true, leb-true}
+use Rattle.std.proofs.Common.{◌≡◌, ℕ, zero, suc, ◌+◌, ◌-◌, ◌<◌, ◌≤◌, Bool, true, false, ◌&&◌, eqb, leb, List, [], ◌∷◌, length, get_or, cond, ltb, refl, sym, ap, ◌∙◌, ⊎_elim, le_of_suc-le-suc, not-suc-le-zero, eq-or-lt_of_le, arith, ne_eqb, eqb-true, leb-true}
 use mathlib.Core.Bool.{and-false}
 use Rattle.questions.proofs.TestLaws.{both}
-use Rattle.modem_transitions.specs.Transitions.{Transition, blank, next_in}
+use borrow.Author.Tests.{leb-false, ltb-true, ltb-false}
+use Rattle.modem_transitions.specs.Transitions.{Transition, blank, next_in, entry_of}
 
 -- ---- a test that passes at each number below n
 abbrev pub all : (ℕ → Bool) → ℕ → Bool
@@ -69,3 +70,15 @@ module _ (events event state : ℕ) where
       (λ t w.
       let parts = both (leb 1 t.event && leb t.event events) (leb t.from 5) w in
       rw (ne_eqb t.from state (λ e. omega (arith, e, high, leb-true t.from 5 parts.1)), and-false))
+
+-- ---- a table that agrees with its list has its entries
+pub entry_is : (ts : List Transition) (table : List (List ℕ)) → all_within (length table) ts ≡ true → ruled (next_in ts) table (length table) 6 ≡ true
+    → (event state : ℕ) → entry_of table event state ≡ next_in ts event state
+entry_is ts table inside whole event state = go (leb 1 event) (leb event (length table)) (ltb state 6) refl refl refl
+  where
+    go : (a b c : Bool) → leb 1 event ≡ a → leb event (length table) ≡ b → ltb state 6 ≡ c
+        → cond (a && b && c) (get_or (get_or table (event - 1) []) state 0) blank ≡ next_in ts event state
+    go false b c ea eb ec = sym (no_event (length table) event state ts inside (omega (arith, leb-false 1 event ea)))
+    go true false c ea eb ec = sym (past_event (length table) event state ts inside (omega (arith, leb-false event (length table) eb)))
+    go true true false ea eb ec = sym (past_state (length table) event state ts inside (omega (arith, ltb-false state 6 ec)))
+    go true true true ea eb ec = rule_at (next_in ts) table (length table) 6 whole event state (leb-true 1 event ea) (leb-true event (length table) eb) (ltb-true state 6 ec)

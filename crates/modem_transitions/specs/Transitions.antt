@@ -1,5 +1,5 @@
 -- The two matrices as document 01 lists them: event, state, next state. States A to F are 0 to 5.
-use Rattle.std.specs.Prelude.{ℕ, cond, ◌&&◌, List, [], ◌∷◌, ◌==◌}
+use Rattle.std.specs.Prelude.{ℕ, ◌-◌, cond, ◌&&◌, List, [], ◌∷◌, ◌==◌, leb, ltb, length, get_or}
 
 pub record Transition : Type 0 where
   pub event : ℕ
@@ -85,3 +85,7 @@ authorization_next_of event state = next_in authorization_transitions event stat
 
 abbrev pub tek_next_of : ℕ → ℕ → ℕ
 tek_next_of event state = next_in tek_transitions event state
+
+-- The entry of a table that has a row for each event, counted from 1, and a column for each state
+abbrev pub entry_of : List (List ℕ) → ℕ → ℕ → ℕ
+entry_of table event state = cond (leb 1 event && leb event (length table) && ltb state 6) (get_or (get_or table (event - 1) []) state 0) blank

@@ -1,5 +1,5 @@
 // The Identifier counter of a modem.
-ghost use Rattle.std.specs.Prelude.{◌≡◌};
+ghost use Rattle.std.specs.Prelude.{◌≡◌, cond};
 ghost use Rattle.modem_transitions.specs.Identifier.{next_identifier_of};
 
 // The Identifier that no new request has, and the first that one has.
@@ -11,9 +11,15 @@ const FIRST: u8 = 1;
 pub fn next_identifier(counter: u8) -> u8
     ensures { result ≡ next_identifier_of counter }
 {
-    let wrapped = std::num::wrapping_add_u8(counter, 1);
-    if wrapped == UNUSED {
-        return FIRST;
+    match counter.wrapping_add(1) {
+        UNUSED => FIRST,
+        next => next,
     }
-    wrapped
+}
+
+// The Identifier after `counter` where a new one is taken, or the one that is kept.
+pub fn next_if(new: bool, counter: u8, kept: u8) -> u8
+    ensures { result ≡ cond new (next_identifier_of counter) kept }
+{
+    if new { next_identifier(counter) } else { kept }
 }

@@ -1,4 +1,6 @@
 // States and events of both machines by name (document 01, "Modem: authorization machine" and "Modem: TEK machine").
+// They are numbers, and no enums: C gives and reads the machines' states, and `tek_next`, `authorization_next`, `step` and `deliver` promise their
+// answers for every number.
 
 // In a table of transitions: nothing changes and nothing is sent.
 pub const BLANK: u8 = 6;
@@ -19,11 +21,7 @@ pub const AUTH_REJECT_WAIT: u8 = 4;
 
 pub const AUTH_SILENT: u8 = 5;
 
-// Events of the authorization machine, the first and the last.
-pub const AUTH_EVENT_MIN: u8 = 1;
-
-pub const AUTH_EVENT_MAX: u8 = 8;
-
+// Events of the authorization machine.
 pub const AUTH_EVENT_ESTABLISHED: u8 = 1;
 
 pub const AUTH_EVENT_REJECT: u8 = 2;
@@ -53,11 +51,7 @@ pub const TEK_REKEY_WAIT: u8 = 4;
 
 pub const TEK_REKEY_REAUTH_WAIT: u8 = 5;
 
-// Events of a TEK machine, the first and the last.
-pub const TEK_EVENT_MIN: u8 = 1;
-
-pub const TEK_EVENT_MAX: u8 = 9;
-
+// Events of a TEK machine.
 pub const TEK_EVENT_STOP: u8 = 1;
 
 pub const TEK_EVENT_AUTHORIZED: u8 = 2;

@@ -30,6 +30,7 @@ pub fn set_at(t: u64) -> Timer
 }
 
 // Whether a timer has to fire.
+#[tactic(auto, unfolding(crate::specs::Timers::is_due_of))]
 pub fn is_due(t: Timer, clock: u64) -> bool
     ensures { result ≡ is_due_of t clock }
 {

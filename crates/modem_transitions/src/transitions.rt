@@ -1,13 +1,14 @@
 // The two matrices: a row for each event, a column for each of the states A to F as 0 to 5, 6 for a blank.
 ghost use Rattle.std.specs.Prelude.{◌≡◌};
-ghost use Rattle.modem_transitions.specs.Transitions.{authorization_next_of, tek_next_of};
+ghost use Rattle.modem_transitions.specs.Transitions.{authorization_next_of, tek_next_of, entry_of};
 
-use crate::states::{
-    AUTH_EVENT_MAX, AUTH_EVENT_MIN, BLANK, STATE_MAX, TEK_EVENT_MAX, TEK_EVENT_MIN,
-};
+use crate::states::BLANK;
+
+// The states of either machine, A to F.
+const STATES: usize = 6;
 
 // Events 1 established, 2 Reject, 3 Reject with error 6, 4 Reply, 5 timeout, 6 grace, 7 Invalid, 8 reauth.
-const AUTHORIZATION_NEXT: [[u8; 6]; 8] = [
+const AUTHORIZATION_NEXT: [[u8; STATES]; 8] = [
     [1, 6, 6, 6, 6, 6],
     [6, 4, 6, 4, 6, 6],
     [6, 5, 6, 5, 6, 6],
@@ -19,7 +20,7 @@ const AUTHORIZATION_NEXT: [[u8; 6]; 8] = [
 ];
 
 // Events 1 Stop, 2 Authorized, 3 Pend, 4 Complete, 5 TEK Invalid, 6 timeout, 7 refresh, 8 Key Reply, 9 Key Reject.
-const TEK_NEXT: [[u8; 6]; 9] = [
+const TEK_NEXT: [[u8; STATES]; 9] = [
     [6, 0, 0, 0, 0, 0],
     [1, 6, 6, 6, 6, 6],
     [6, 2, 6, 6, 5, 6],
@@ -31,38 +32,29 @@ const TEK_NEXT: [[u8; 6]; 9] = [
     [6, 0, 6, 6, 0, 6],
 ];
 
+// The entry of a table for an event and a state; what has no row or no column has a blank.
+fn entry(table: &[[u8; STATES]], event: u8, state: u8) -> u8
+    ensures { result ≡ entry_of table.now event state }
+{
+    let event = event as usize;
+    let state = state as usize;
+    if (1 <= event) & (event <= table.len()) & (state < STATES) {
+        table[event - 1][state]
+    } else {
+        BLANK
+    }
+}
+
 // The state after an event; what is no event or no state has a blank.
 pub fn authorization_next(event: u8, state: u8) -> u8
     ensures { result ≡ authorization_next_of event state }
 {
-    if event < AUTH_EVENT_MIN {
-        return BLANK;
-    }
-    if AUTH_EVENT_MAX < event {
-        return BLANK;
-    }
-    if STATE_MAX < state {
-        return BLANK;
-    }
-    let row = event as usize - 1;
-    let column = state as usize;
-    AUTHORIZATION_NEXT[row][column]
+    entry(&AUTHORIZATION_NEXT, event, state)
 }
 
 // The same of a TEK machine.
 pub fn tek_next(event: u8, state: u8) -> u8
     ensures { result ≡ tek_next_of event state }
 {
-    if event < TEK_EVENT_MIN {
-        return BLANK;
-    }
-    if TEK_EVENT_MAX < event {
-        return BLANK;
-    }
-    if STATE_MAX < state {
-        return BLANK;
-    }
-    let row = event as usize - 1;
-    let column = state as usize;
-    TEK_NEXT[row][column]
+    entry(&TEK_NEXT, event, state)
 }

@@ -5,8 +5,7 @@ use mathlib.Core.List.{List, [], ◌∷◌, ◌++◌}
 use mathlib.Core.Bool.{Bool, true, false, cond}
 use native.Mathlib.Omega.{arith}
 use Rattle.questions.specs.declared.refusal.Refusal.{Refusal}
-use Rattle.questions.specs.declared.refusal.Answer.{Answer}
-use Rattle.questions.specs.declared.refusal.Answer.TheVariants.{Done, Refused}
+use Rattle.questions.specs.Answer.{Answer, Done, Refused}
 use Rattle.questions.specs.declared.refusal.Refusal.TheVariants.{OutOfLimits, WrongLength, ClockOutOfOrder, NoFreePlace, NotNew, CutMessage, CodeNotReceived, BadAttribute, WrongAttributes, UnknownSaid, WrongIdentifier, DigestFails, NoKeyForFrame, NoKeyToSeal, ShortFrame}
 use Rattle.questions.specs.Refusal.{number_of, answer_number_of, is_done_of}
 use Rattle.questions.specs.Questions.{Question, first_no, answer_then}

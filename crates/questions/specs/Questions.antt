@@ -1,8 +1,7 @@
 -- How a call meets its questions (document 01, "The questions, in order"): the first "no" gives its number.
 use Rattle.std.specs.Prelude.{Bool, cond, List, [], ◌∷◌}
 use Rattle.questions.specs.declared.refusal.Refusal.{Refusal}
-use Rattle.questions.specs.declared.refusal.Answer.{Answer}
-use Rattle.questions.specs.declared.refusal.Answer.TheVariants.{Done, Refused}
+use Rattle.questions.specs.Answer.{Answer, Done, Refused}
 
 -- A question that applies to a call: the refusal that a "no" gives, and whether the answer is yes
 pub record Question : Type 0 where

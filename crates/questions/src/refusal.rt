@@ -1,11 +1,10 @@
 // What a call answers: done, or refused by one of the questions, and the number of each.
 ghost use Rattle.std.specs.Prelude.{◌≡◌, cond};
-ghost use Rattle.questions.specs.declared.refusal.Answer.TheVariants.{Refused};
-ghost use Rattle.questions.specs.Questions.{answer_then};
-ghost use Rattle.questions.specs.Refusal.{number_of, answer_number_of, is_done_of, earliest};
+ghost use Rattle.questions.specs.Answer.{Done, Refused};
+ghost use Rattle.questions.specs.Refusal.{number_of, answer_number_of, earliest};
 
 // The refusals: 14 in the order of document 01's questions, then document 02's 15 (M-103).
-#[derive(Clone, Copy)]
+#[derive(Clone, Copy, Debug, PartialEq, Eq)]
 pub enum Refusal {
     OutOfLimits,
     WrongLength,
@@ -25,25 +24,27 @@ pub enum Refusal {
 }
 
 // The number of a refusal.
-pub fn number(r: Refusal) -> u8
-    ensures { result ≡ number_of r }
-{
-    match r {
-        Refusal::OutOfLimits => 1,
-        Refusal::WrongLength => 2,
-        Refusal::ClockOutOfOrder => 3,
-        Refusal::NoFreePlace => 4,
-        Refusal::NotNew => 5,
-        Refusal::CutMessage => 6,
-        Refusal::CodeNotReceived => 7,
-        Refusal::BadAttribute => 8,
-        Refusal::WrongAttributes => 9,
-        Refusal::UnknownSaid => 10,
-        Refusal::WrongIdentifier => 11,
-        Refusal::DigestFails => 12,
-        Refusal::NoKeyForFrame => 13,
-        Refusal::NoKeyToSeal => 14,
-        Refusal::ShortFrame => 15,
+impl From<Refusal> for u8 {
+    ghost from_gives = { λ r n. n ≡ number_of r };
+
+    fn from(r: Refusal) -> u8 {
+        match r {
+            Refusal::OutOfLimits => 1,
+            Refusal::WrongLength => 2,
+            Refusal::ClockOutOfOrder => 3,
+            Refusal::NoFreePlace => 4,
+            Refusal::NotNew => 5,
+            Refusal::CutMessage => 6,
+            Refusal::CodeNotReceived => 7,
+            Refusal::BadAttribute => 8,
+            Refusal::WrongAttributes => 9,
+            Refusal::UnknownSaid => 10,
+            Refusal::WrongIdentifier => 11,
+            Refusal::DigestFails => 12,
+            Refusal::NoKeyForFrame => 13,
+            Refusal::NoKeyToSeal => 14,
+            Refusal::ShortFrame => 15,
+        }
     }
 }
 
@@ -58,51 +59,24 @@ pub const UNKNOWN_SAID: u8 = 10;
 
 pub const NO_KEY_FOR_FRAME: u8 = 13;
 
-// What a call answers.
-#[derive(Clone, Copy)]
-pub enum Answer {
-    Done,
-    Refused(Refusal),
-}
+// What a call answers: done, or refused.
+pub type Answer = Result<(), Refusal>;
 
 // 0 for done, else the refusal's number.
 pub fn answer_number(a: Answer) -> u8
     ensures { result ≡ answer_number_of a }
 {
     match a {
-        Answer::Done => DONE,
-        Answer::Refused(r) => number(r),
+        Ok(()) => DONE,
+        Err(r) => u8::from(r),
     }
 }
 
-// Whether nothing is refused.
-pub fn is_done(a: Answer) -> bool
-    ensures { result ≡ is_done_of a }
+// One question: refused with `no` where it is not met.
+pub fn ask(met: bool, no: Refusal) -> Answer
+    ensures { result ≡ cond met Done (Refused no) }
 {
-    match a {
-        Answer::Done => true,
-        Answer::Refused(_) => false,
-    }
-}
-
-// One question: the answer to those after it, or its refusal where it is not met.
-pub fn ask(met: bool, no: Refusal, later: Answer) -> Answer
-    ensures { result ≡ cond met later (Refused no) }
-{
-    if met {
-        return later;
-    }
-    Answer::Refused(no)
-}
-
-// The answer to questions that come first, or to those after them where nothing is refused.
-pub fn and_then(a: Answer, later: Answer) -> Answer
-    ensures { result ≡ answer_then a later }
-{
-    match a {
-        Answer::Done => later,
-        Answer::Refused(_) => a,
-    }
+    if met { Ok(()) } else { Err(no) }
 }
 
 // The number of a clock call from those of both ends: that of the earlier question, 0 being none.

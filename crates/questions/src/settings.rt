@@ -8,7 +8,7 @@ use crate::limits::{
 
 // Traffic keys: lifetime L and grace, in seconds.
 #[repr(C)]
-#[derive(Clone, Copy)]
+#[derive(Clone, Copy, Debug, Default, PartialEq, Eq)]
 pub struct TekTimes {
     pub life: u64,
     pub grace: u64,
@@ -16,7 +16,7 @@ pub struct TekTimes {
 
 // Authorization keys: lifetime A and grace, in seconds.
 #[repr(C)]
-#[derive(Clone, Copy)]
+#[derive(Clone, Copy, Debug, Default, PartialEq, Eq)]
 pub struct AkTimes {
     pub life: u64,
     pub grace: u64,
@@ -24,7 +24,7 @@ pub struct AkTimes {
 
 // How long a modem waits before a timeout in each waiting state, in seconds.
 #[repr(C)]
-#[derive(Clone, Copy)]
+#[derive(Clone, Copy, Debug, Default, PartialEq, Eq)]
 pub struct Waits {
     pub authorize: u64,
     pub reauthorize: u64,
@@ -35,7 +35,7 @@ pub struct Waits {
 
 // All settings; both ends have the same.
 #[repr(C)]
-#[derive(Clone, Copy)]
+#[derive(Clone, Copy, Debug, Default, PartialEq, Eq)]
 pub struct Settings {
     pub tek: TekTimes,
     pub ak: AkTimes,
@@ -94,28 +94,12 @@ pub fn waits_fit(w: Waits) -> bool
 pub fn settings_fit(s: Settings) -> bool
     ensures { result ≡ settings_fit_of s }
 {
-    let tek = s.tek;
-    let ak = s.ak;
-    let waits = s.waits;
-    tek_times_fit(tek) & ak_times_fit(ak) & waits_fit(waits)
+    tek_times_fit(s.tek) & ak_times_fit(s.ak) & waits_fit(s.waits)
 }
 
 // All zero.
 pub fn no_settings() -> Settings
     ensures { result ≡ no_settings_of }
 {
-    let tek = TekTimes { life: 0, grace: 0 };
-    let ak = AkTimes { life: 0, grace: 0 };
-    let waits = Waits {
-        authorize: 0,
-        reauthorize: 0,
-        operational: 0,
-        rekey: 0,
-        reject: 0,
-    };
-    Settings {
-        tek: tek,
-        ak: ak,
-        waits: waits,
-    }
+    Settings::default()
 }

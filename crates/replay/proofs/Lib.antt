@@ -1,4 +1,3 @@
-pub mod StartLaws
 pub mod LineLaws
 pub mod FedLaws
 pub mod TurnLaws

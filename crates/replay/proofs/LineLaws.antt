@@ -1,10 +1,11 @@
 -- What is written for a line of set-up and at the end of a run, by the stage where the run stands.
 use mathlib.Core.Path.{◌≡◌, refl, sym, ◌∙◌, ap, subst}
 use mathlib.Core.Bool.{Bool, true, false, cond}
-use mathlib.Core.List.{List, [], ◌∷◌}
+use mathlib.Core.List.{List, []}
 use Prim.Native.Nat.{ℕ, ◌≤◌}
 use native.Mathlib.Omega.{arith}
-use lib.ListN.{length, set}
+use lib.ListN.{length}
+use Rattle.std.specs.Prelude.{Some, None}
 use Rattle.key_traffic.specs.Octets.{overlay}
 use Rattle.replay_read.specs.declared.setup.ReadModem.{ReadModem}
 use Rattle.replay_answer.specs.Answer.{answer_line}
@@ -17,12 +18,6 @@ use Rattle.replay.specs.Turn.{no_call_text}
 use Rattle.replay.specs.Replay.{both_fit_of, start_text, limits_text, modem_text, end_text_at}
 use Rattle.replay.specs.Takes.{Takes}
 
--- Two octets put at the front
-pub two_put : (a b : ℕ) (out : List ℕ) → answer_line ≤ length out → set (set out 0 a) 1 b ≡ overlay out (a ∷ b ∷ [])
-two_put a b [] h = absurd (omega arith)
-two_put a b (x ∷ []) h = absurd (omega arith)
-two_put a b (x ∷ y ∷ l) h = refl
-
 -- ---- what is written for it
 abbrev Says : List ℕ → List ℕ → ℕ → List ℕ → Type 0
 Says text out n after = ((n ≡ length text) × (after ≡ overlay out text)) × (n ≤ answer_line)
@@ -30,22 +25,15 @@ Says text out n after = ((n ≡ length text) × (after ≡ overlay out text)) ×
 pub start-refused : (form : Bool) (n : ℕ) (out after : List ℕ) → form ≡ false → n ≡ 2 → after ≡ overlay out no_call_text → Says (start_text form) out n after
 start-refused form n out after h p q = subst (λ b. Says (start_text b) out n after) (sym h) ((p, q), omega (arith, p))
 
-pub modem_no_form : (r : ReadModem) (s : Replay) (n : ℕ) (out after : List ℕ) → r.is_form ≡ false → n ≡ 2 → after ≡ overlay out no_call_text
-    → Says (modem_text r s) out n after
-modem_no_form r s n out after h p q =
-    subst (λ b. Says (cond b (cond (both_fit_of s.settings r.address r.said) [] limits_text) no_call_text) out n after) (sym h) ((p, q), omega (arith, p))
+pub modem_no_form : (s : Replay) (n : ℕ) (out after : List ℕ) → n ≡ 2 → after ≡ overlay out no_call_text → Says (modem_text None s) out n after
+modem_no_form s n out after p q = ((p, q), omega (arith, p))
 
-pub modem-fits : (r : ReadModem) (s : Replay) (b : Bool) (out : List ℕ) → r.is_form ≡ true → b ≡ both_fit_of s.settings r.address r.said → b ≡ true
-    → Says (modem_text r s) out 0 out
-modem-fits r s b out h f t =
-    subst (λ x. Says (cond x (cond (both_fit_of s.settings r.address r.said) [] limits_text) no_call_text) out 0 out) (sym h)
-    (subst (λ x. Says (cond x [] limits_text) out 0 out) (sym t ∙ f) ((refl, refl), omega arith))
+pub modem-fits : (r : ReadModem) (s : Replay) (b : Bool) (out : List ℕ) → b ≡ both_fit_of s.settings r.address r.said → b ≡ true → Says (modem_text (Some r) s) out 0 out
+modem-fits r s b out f t = subst (λ x. Says (cond x [] limits_text) out 0 out) (sym t ∙ f) ((refl, refl), omega arith)
 
-pub modem_out_of_limits : (r : ReadModem) (s : Replay) (b : Bool) (n : ℕ) (out after : List ℕ) → r.is_form ≡ true
-    → b ≡ both_fit_of s.settings r.address r.said → b ≡ false → n ≡ 2 → after ≡ overlay out limits_text → Says (modem_text r s) out n after
-modem_out_of_limits r s b n out after h f t p q =
-    subst (λ x. Says (cond x (cond (both_fit_of s.settings r.address r.said) [] limits_text) no_call_text) out n after) (sym h)
-    (subst (λ x. Says (cond x [] limits_text) out n after) (sym t ∙ f) ((p, q), omega (arith, p)))
+pub modem_out_of_limits : (r : ReadModem) (s : Replay) (b : Bool) (n : ℕ) (out after : List ℕ)
+    → b ≡ both_fit_of s.settings r.address r.said → b ≡ false → n ≡ 2 → after ≡ overlay out limits_text → Says (modem_text (Some r) s) out n after
+modem_out_of_limits r s b n out after f t p q = subst (λ x. Says (cond x [] limits_text) out n after) (sym t ∙ f) ((p, q), omega (arith, p))
 
 -- ---- by the stage
 pub taken_at : (s : Replay) (line out after : List ℕ) (r : Taken) (k : Stage) → s.stage ≡ k → Takes k s line out r after → Takes s.stage s line out r after

@@ -1,8 +1,7 @@
 -- Laws of what was written at the front of a lent slice, of an answer, and of a line by the call that it says.
 use mathlib.Core.Path.{◌≡◌, refl, sym, ◌∙◌, ap, subst}
-use mathlib.Core.Bool.{true, false}
 use mathlib.Core.List.{List, [], ◌∷◌, ◌++◌}
-use mathlib.Core.Option.{Option, none, some}
+use Rattle.std.specs.Prelude.{Option, None, Some}
 use Prim.Native.Nat.{ℕ, ◌+◌, ◌≤◌, ◌<◌}
 use native.Mathlib.Omega.{arith}
 use lib.ListN.{length, take, drop, replicate, length-append, length-drop, length-replicate}
@@ -133,11 +132,10 @@ unfolding call_of is_line
 too_long e line out after r h p q = simp (lt-leb (length line) 16384 h) ((ap (λ (y : Turned). y.ends) p, ap (λ (y : Turned). y.count) p, q))
 
 -- One that says none is none
-pub says_none : (e : Ends) (line out after : List ℕ) (o : Option LineCall) (c : ReadCall) (r : Turned) → Reads line o c → c.is_call ≡ false
+pub says_none : (e : Ends) (line out after : List ℕ) (o : Option LineCall) (r : Turned) → Reads line o None
     → r ≡ record { count = 2; ends = e } → after ≡ overlay out no_call_text → Turns e o out r after
-says_none e line out after none c r reads isnt p q = (ap (λ (y : Turned). y.ends) p, ap (λ (y : Turned). y.count) p, q)
-says_none e line out after (some t) c r reads isnt p q =
-    let z : true ≡ false = sym reads.call_there ∙ isnt in let y : ◌≡◌ {A = ℕ} 0 1 = cc in absurd (omega arith)
+says_none e line out after None r reads p q = (ap (λ (y : Turned). y.ends) p, ap (λ (y : Turned). y.count) p, q)
+says_none e line out after (Some t) r reads p q = absurd reads
 
 -- One that says a call is that call's step, with the octets and the keys that it says
 abbrev Answers : Ends → Step → Kind → List ℕ → Turned → List ℕ → Type 0
@@ -150,16 +148,20 @@ same_step c o o' a a' k k' w w' n n' p q r s t =
     ∙ ap (λ (l : List ℕ). step_for c o' a' l w 16 16 342 n) r ∙ ap (λ (l : List ℕ). step_for c o' a' k' l 16 16 342 n) s
     ∙ ap (λ (m : ℕ). step_for c o' a' k' w' 16 16 342 m) t
 
-pub says_call : (e : Ends) (line out after : List ℕ) (o : Option LineCall) (c : ReadCall) (r : Turned) → Reads line o c → c.is_call ≡ true
+pub says_call : (e : Ends) (line out after : List ℕ) (o : Option LineCall) (c : ReadCall) (r : Turned) → Reads line o (Some c)
     → Answers e (step_read c line) c.call.kind out r after → Turns e o out r after
-says_call e line out after none c r reads yes' h =
-    let z : true ≡ false = sym yes' ∙ reads.call_there in let y : ◌≡◌ {A = ℕ} 0 1 = cc in absurd (omega arith)
-says_call e line out after (some t) c r reads yes' h =
+says_call e line out after None c r reads h = absurd reads
+says_call e line out after (Some t) c r reads h =
     let step : step_read c line ≡ step_for_line t =
     same_step c.call _ _ _ _ _ _ _ _ _ _ reads.octets_at.says reads.auth_at.says reads.read_at.says reads.write_at.says (ap length reads.octets_at.says)
     ∙ ap (λ (k : Call). step_for k t.octets t.auth t.read t.write 16 16 342 (length t.octets)) reads.call_is in
     let stepped = subst (λ (x : Step). Answers e x c.call.kind out r after) step h in
     subst (λ (k : Kind). Answers e (step_for_line t) k out r after) (ap (λ (k : Call). k.kind) reads.call_is) stepped
+
+-- where the line has the digits of a call that it says
+pub places_fit : (line : List ℕ) (o : Option LineCall) (c : ReadCall) → Reads line o (Some c) → PlacesFit c line
+places_fit line None c reads = absurd reads
+places_fit line (Some t) c reads = record { octets = reads.octets_at.within; auth = reads.auth_at.within; read = reads.read_at.within; write = reads.write_at.within }
 
 -- ---- the octets and the keys of a line, taken out of it
 octets_count : (line : List ℕ) (p : Place) → Within p line → length (octets_at_of line p) ≡ p.count

@@ -1,6 +1,6 @@
 -- A run of the program `replay` line by line: four lines of set-up, then calls on the fresh pair of demand 3's. A wrong start answers "?" alone, and
 -- set-up values out of their limits "1" alone; what has no form comes before what is out of its limits.
-use Rattle.std.specs.Prelude.{Bool, cond, ◌&&◌, List, [], ◌∷◌, ℕ, replicate}
+use Rattle.std.specs.Prelude.{Option, None, Some, is_some, Bool, cond, ◌&&◌, List, [], ◌∷◌, ℕ, replicate}
 use Rattle.questions.specs.declared.settings.Settings.{Settings}
 use Rattle.questions.specs.Refusal.{is_done_of}
 use Rattle.questions.specs.Settings.{no_settings_of}
@@ -8,7 +8,6 @@ use Rattle.key_association.specs.Search.{blank}
 use Rattle.headend_calls.specs.Calls as Head
 use Rattle.modem_calls.specs.Calls as Mdm
 use Rattle.demand_plant.specs.World.{fresh}
-use Rattle.replay_read.specs.declared.setup.ReadSettings.{ReadSettings}
 use Rattle.replay_read.specs.declared.setup.ReadModem.{ReadModem}
 use Rattle.replay_read.specs.Setup.{settings_names_of, modem_names_of, settings_of, modem_of}
 use Rattle.replay_answer.specs.Answer.{counts_text}
@@ -32,16 +31,18 @@ at_stage_of s stage = record { stage = stage; settings = s.settings; ends = s.en
 
 -- ---- the state after a line
 
-abbrev pub settings_read_of : ReadSettings → Replay → Replay
-settings_read_of r s = cond r.is_form (record { stage = ModemNames; settings = r.settings; ends = s.ends }) (at_stage_of s Stopped)
+abbrev pub settings_read_of : Option Settings → Replay → Replay
+settings_read_of None s = at_stage_of s Stopped
+settings_read_of (Some settings) s = record { stage = ModemNames; settings = settings; ends = s.ends }
 
 -- Whether both ends take the set-up values
 abbrev pub both_fit_of : Settings → ℕ → ℕ → Bool
 both_fit_of settings address said = is_done_of (Head.new_value settings).answer && is_done_of (Mdm.new_value settings address said).answer
 
-abbrev pub modem_read_of : ReadModem → Replay → Replay
-modem_read_of r s =
-    cond (r.is_form && both_fit_of s.settings r.address r.said)
+abbrev pub modem_read_of : Option ReadModem → Replay → Replay
+modem_read_of None s = at_stage_of s Stopped
+modem_read_of (Some r) s =
+    cond (both_fit_of s.settings r.address r.said)
     (record { stage = Running; settings = s.settings; ends = fresh_ends_of s.settings r.address r.said })
     (at_stage_of s Stopped)
 
@@ -65,12 +66,13 @@ limits_text = 49 ∷ 10 ∷ []
 abbrev pub start_text : Bool → List ℕ
 start_text form = cond form [] no_call_text
 
-abbrev pub modem_text : ReadModem → Replay → List ℕ
-modem_text r s = cond r.is_form (cond (both_fit_of s.settings r.address r.said) [] limits_text) no_call_text
+abbrev pub modem_text : Option ReadModem → Replay → List ℕ
+modem_text None s = no_call_text
+modem_text (Some r) s = cond (both_fit_of s.settings r.address r.said) [] limits_text
 
 abbrev pub line_text_at : Stage → Replay → List ℕ → List ℕ
 line_text_at SettingsNames s line = start_text (settings_names_of line)
-line_text_at SettingsValues s line = start_text (settings_of line).is_form
+line_text_at SettingsValues s line = start_text (is_some (settings_of line))
 line_text_at ModemNames s line = start_text (modem_names_of line)
 line_text_at ModemValues s line = modem_text (modem_of line) s
 line_text_at Running s line = turn_text s.ends line

@@ -1,7 +1,6 @@
 -- A line that is a call, and its answer: the call's step is demand 3's, with slices of 16, 16 and 342 octets lent for TEK, vector and messages, and for a
 -- frame one as long as the line's octets.
-use Rattle.std.specs.Prelude.{◌≡◌, List, [], ◌∷◌, ℕ, ◌+◌, ◌*◌, ◌≤◌, length, take, drop, replicate}
-use Rattle.std.proofs.Math.Option.{Option, none, some}
+use Rattle.std.specs.Prelude.{◌≡◌, Option, None, Some, List, [], ◌∷◌, ℕ, ◌+◌, ◌*◌, ◌≤◌, length, take, drop, replicate}
 use Rattle.key_traffic.specs.Octets.{overlay}
 use Rattle.replay_read.specs.declared.calls.Kind.{Kind}
 use Rattle.demand_plant.specs.World.{Step, step_of}
@@ -55,12 +54,12 @@ unfoldable pub ends_after : Ends → Step → Ends
 ends_after e s = ends_of (step_of (world_of e) s).world
 
 abbrev pub turn_text_for : Ends → Option LineCall → List ℕ
-turn_text_for e none = no_call_text
-turn_text_for e (some t) = answered_by_of e (step_for_line t) t.call.kind
+turn_text_for e None = no_call_text
+turn_text_for e (Some t) = answered_by_of e (step_for_line t) t.call.kind
 
 abbrev pub turn_ends_for : Ends → Option LineCall → Ends
-turn_ends_for e none = e
-turn_ends_for e (some t) = ends_after e (step_for_line t)
+turn_ends_for e None = e
+turn_ends_for e (Some t) = ends_after e (step_for_line t)
 
 abbrev pub turn_text : Ends → List ℕ → List ℕ
 turn_text e line = turn_text_for e (call_of line)

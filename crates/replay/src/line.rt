@@ -12,18 +12,15 @@ fn take_call(s: Replay, line: &[u8], out: &mut [u8]) -> Taken
     requires { answer_line ≤ length out.old }
     ensures { Takes Running s line.now out.old result out.new }
 {
-    let settings = s.settings;
-    let ends = s.ends;
-    let t = turn(ends, line, out);
-    let after = t.ends;
+    let t = turn(s.ends, line, out);
     let replay = Replay {
         stage: Stage::Running,
-        settings: settings,
-        ends: after,
+        ends: t.ends,
+        ..s
     };
     Taken {
         count: t.count,
-        replay: replay,
+        replay,
     }
 }
 
@@ -41,8 +38,7 @@ pub fn take_line(s: Replay, line: &[u8], out: &mut [u8]) -> Taken
     requires { answer_line ≤ length out.old }
     ensures { Takes s.stage s line.now out.old result out.new }
 {
-    let stage = s.stage;
-    match stage {
+    match s.stage {
         Stage::SettingsNames => take_settings_names(s, line, out),
         Stage::SettingsValues => take_settings(s, line, out),
         Stage::ModemNames => take_modem_names(s, line, out),

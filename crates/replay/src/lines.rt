@@ -11,10 +11,7 @@ use crate::start::{Replay, Stage, at_stage, both_fit, modem_read, settings_read}
 use replay_answer::answer::put_counts;
 use replay_apply::ends::Ends;
 use replay_read::setup::{ReadModem, is_modem_names, is_settings_names, read_modem, read_settings};
-use text::characters::LINE_FEED;
-
-// Characters of a line that has but one, with its line feed.
-const SHORT_LINE: usize = 2;
+use text::put::put_text;
 
 // The run after a line, and how many characters were answered.
 #[derive(Clone, Copy)]
@@ -28,9 +25,7 @@ pub fn put_no_call(out: &mut [u8]) -> usize
     requires { answer_line ≤ length out.old }
     ensures { (result ≡ 2) × (out.new ≡ overlay out.old no_call_text) }
 {
-    out[0] = b'?';
-    out[1] = LINE_FEED;
-    SHORT_LINE
+    put_text(out, 0, b"?\n")
 }
 
 // A line of set-up answers nothing where it has its form.
@@ -39,10 +34,7 @@ fn put_start(form: bool, out: &mut [u8]) -> usize
     ensures value { (result ≡ length (start_text form)) × (out.new ≡ overlay out.old (start_text form)) }
     ensures upper_bound { result ≤ answer_line }
 {
-    if form {
-        return 0;
-    }
-    put_no_call(out)
+    if form { 0 } else { put_no_call(out) }
 }
 
 // "1" and a line feed.
@@ -50,33 +42,25 @@ fn put_limits(out: &mut [u8]) -> usize
     requires { answer_line ≤ length out.old }
     ensures { (result ≡ 2) × (out.new ≡ overlay out.old limits_text) }
 {
-    out[0] = b'1';
-    out[1] = LINE_FEED;
-    SHORT_LINE
+    put_text(out, 0, b"1\n")
 }
 
-fn put_modem(r: ReadModem, s: Replay, out: &mut [u8]) -> usize
+fn put_modem(r: Option<ReadModem>, s: Replay, out: &mut [u8]) -> usize
     requires { answer_line ≤ length out.old }
     ensures value { (result ≡ length (modem_text r s)) × (out.new ≡ overlay out.old (modem_text r s)) }
     ensures upper_bound { result ≤ answer_line }
 {
-    let settings = s.settings;
-    if !r.is_form {
-        return put_no_call(out);
+    match r {
+        None => put_no_call(out),
+        Some(m) if both_fit(s.settings, m.address, m.said) => 0,
+        Some(_) => put_limits(out),
     }
-    if both_fit(settings, r.address, r.said) {
-        return 0;
-    }
-    put_limits(out)
 }
 
 fn next_stage(form: bool, next: Stage) -> Stage
     ensures { result ≡ cond form next Stopped }
 {
-    if form {
-        return next;
-    }
-    Stage::Stopped
+    if form { next } else { Stage::Stopped }
 }
 
 // The first line: the names of the settings.
@@ -85,12 +69,11 @@ pub fn take_settings_names(s: Replay, line: &[u8], out: &mut [u8]) -> Taken
     ensures { Takes SettingsNames s line.now out.old result out.new }
 {
     let form = is_settings_names(line);
-    let n = put_start(form, out);
+    let count = put_start(form, out);
     let stage = next_stage(form, Stage::SettingsValues);
-    let replay = at_stage(s, stage);
     Taken {
-        count: n,
-        replay: replay,
+        count,
+        replay: at_stage(s, stage),
     }
 }
 
@@ -100,11 +83,10 @@ pub fn take_settings(s: Replay, line: &[u8], out: &mut [u8]) -> Taken
     ensures { Takes SettingsValues s line.now out.old result out.new }
 {
     let x = read_settings(line);
-    let n = put_start(x.is_form, out);
-    let replay = settings_read(x, s);
+    let count = put_start(x.is_some(), out);
     Taken {
-        count: n,
-        replay: replay,
+        count,
+        replay: settings_read(x, s),
     }
 }
 
@@ -114,12 +96,11 @@ pub fn take_modem_names(s: Replay, line: &[u8], out: &mut [u8]) -> Taken
     ensures { Takes ModemNames s line.now out.old result out.new }
 {
     let form = is_modem_names(line);
-    let n = put_start(form, out);
+    let count = put_start(form, out);
     let stage = next_stage(form, Stage::ModemValues);
-    let replay = at_stage(s, stage);
     Taken {
-        count: n,
-        replay: replay,
+        count,
+        replay: at_stage(s, stage),
     }
 }
 
@@ -129,11 +110,10 @@ pub fn take_modem(s: Replay, line: &[u8], out: &mut [u8]) -> Taken
     ensures { Takes ModemValues s line.now out.old result out.new }
 {
     let x = read_modem(line);
-    let n = put_modem(x, s, out);
-    let replay = modem_read(x, s);
+    let count = put_modem(x, s, out);
     Taken {
-        count: n,
-        replay: replay,
+        count,
+        replay: modem_read(x, s),
     }
 }
 
@@ -152,14 +132,10 @@ pub fn put_end(s: Replay, out: &mut [u8]) -> usize
     requires { answer_line ≤ length out.old }
     ensures { (result ≡ length (end_text s)) × ((out.new ≡ overlay out.old (end_text s)) × (result ≤ answer_line)) }
 {
-    let stage = s.stage;
-    let e = s.ends;
-    match stage {
-        Stage::Running => put_ends(e, out),
+    match s.stage {
+        Stage::Running => put_ends(s.ends, out),
         Stage::Stopped => 0,
-        Stage::SettingsNames => put_no_call(out),
-        Stage::SettingsValues => put_no_call(out),
-        Stage::ModemNames => put_no_call(out),
-        Stage::ModemValues => put_no_call(out),
+        Stage::SettingsNames | Stage::SettingsValues | Stage::ModemNames | Stage::ModemValues =>
+            put_no_call(out),
     }
 }

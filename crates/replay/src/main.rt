@@ -11,7 +11,7 @@ mod lines;
 mod start;
 mod turn;
 
-ghost use Rattle.std.specs.Prelude.{◌≡◌, ◌≤◌, ◌<◌, length, take};
+ghost use Rattle.std.specs.Prelude.{◌≡◌, ◌≤◌, length, take, IfSome};
 ghost use Rattle.replay.specs.Replay.{after_line};
 ghost use Rattle.replay.specs.Fed.{kept, fed_by, fed_all, pending_in, Fed};
 
@@ -41,8 +41,7 @@ fn answer(to: &Stdout, s: Replay, line: &[u8]) -> Replay
 {
     let mut space = [0u8; ANSWER_LINE];
     let t = take_line(s, line, &mut space);
-    let n = t.count;
-    let _ = to.write_all(&space[..n]);
+    let _ = to.write_all(&space[..t.count]);
     t.replay
 }
 
@@ -53,108 +52,76 @@ fn keep(count: usize, line: &mut [u8], b: u8) -> usize
 {
     if count < LINE_KEPT {
         line[count] = b;
-        return count + 1;
+        count + 1
+    } else {
+        count
     }
-    count
 }
 
 // A character of the input.
-fn take_octet(to: &Stdout, s: Replay, count: usize, line: &mut [u8], b: u8) -> Reading
-    requires { (count ≤ 16385) × (16385 ≤ length line.old) }
-    ensures { Fed (fed_by (pending_in s count line.old) b) result line.new }
+fn take_octet(to: &Stdout, r: Reading, line: &mut [u8], b: u8) -> Reading
+    requires { (r.count ≤ 16385) × (16385 ≤ length line.old) }
+    ensures { Fed (fed_by (pending_in r.replay r.count line.old) b) result line.new }
 {
     if b == LINE_FEED {
-        let replay = answer(to, s, &line[..count]);
-        return Reading {
-            replay: replay,
-            count: 0,
-        };
+        let replay = answer(to, r.replay, &line[..r.count]);
+        return Reading { replay, count: 0 };
     }
-    let n = keep(count, line, b);
-    Reading {
-        replay: s,
-        count: n,
-    }
+    let count = keep(r.count, line, b);
+    Reading { count, ..r }
 }
 
 // The characters of some input.
-fn feed(to: &Stdout, s: Replay, count: usize, input: &[u8], line: &mut [u8]) -> Reading
-    requires { (count ≤ 16385) × (16385 ≤ length line.old) }
-    ensures { Fed (fed_all (pending_in s count line.old) input.now) result line.new }
+fn feed(to: &Stdout, r: Reading, input: &[u8], line: &mut [u8]) -> Reading
+    requires { (r.count ≤ 16385) × (16385 ≤ length line.old) }
+    ensures { Fed (fed_all (pending_in r.replay r.count line.old) input.now) result line.new }
 {
-    let mut replay = s;
-    let mut n = count;
-    let mut i: usize = 0;
-    while i < input.len() {
-        let r = take_octet(to, replay, n, line, input[i]);
-        replay = r.replay;
-        n = r.count;
-        i += 1;
+    let mut reading = r;
+    for b in input {
+        reading = take_octet(to, reading, line, *b);
     }
-    Reading {
-        replay: replay,
-        count: n,
-    }
+    reading
 }
 
 // What is answered at the end of the input; the last line may lack its line feed.
 fn finish(to: &Stdout, s: Replay, line: &[u8]) {
-    let mut replay = s;
-    if 0 < line.len() {
-        replay = answer(to, replay, line);
-    }
+    let replay = if line.is_empty() {
+        s
+    } else {
+        answer(to, s, line)
+    };
     let mut space = [0u8; ANSWER_LINE];
     let n = put_end(replay, &mut space);
     let _ = to.write_all(&space[..n]);
 }
 
-// A run after some input, and whether there was any; a read that fails gives none.
-#[derive(Clone, Copy)]
-struct Chunk {
-    is_more: bool,
-    replay: Replay,
-    count: usize,
-}
-
-fn read_some(mut from: Stdin, to: &Stdout, s: Replay, count: usize, line: &mut [u8]) -> Chunk
-    requires { (count ≤ 16385) × (16385 ≤ length line.old) }
-    ensures { result.count ≤ 16385 }
+// A run after some input, if there was any; a read that fails gives none.
+fn read_some(mut from: Stdin, to: &Stdout, r: Reading, line: &mut [u8]) -> Option<Reading>
+    requires { (r.count ≤ 16385) × (16385 ≤ length line.old) }
+    ensures { IfSome result (λ x. x.count ≤ 16385) }
 {
     let mut input = [0u8; INPUT_READ];
-    let k = from.read(&mut input).unwrap_or(0);
-    let r = feed(to, s, count, &input[..k], line);
-    let replay = r.replay;
-    Chunk {
-        is_more: 0 < k,
-        replay: replay,
-        count: r.count,
+    let n = from.read(&mut input).unwrap_or(0);
+    if n == 0 {
+        return None;
     }
+    Some(feed(to, r, &input[..n], line))
 }
 
-// How many more times the input is asked: none where it is over.
-fn turns_left(turns: u64, is_more: bool) -> u64
-    requires { 0 < turns }
-    ensures { result < turns }
-{
-    if is_more {
-        return turns - 1;
-    }
-    0
-}
-
-// A proved loop has to end, and nothing says that the input does: the turns are counted down from a number that no run uses up.
+// A proved loop has to end, and nothing says that the input does: the turns are counted up to a number that no run uses up.
 fn main(rt: HostRuntime) {
     let from = rt.stdin();
     let to = rt.stdout();
     let mut line = [0u8; LINE_KEPT];
-    let mut replay = begin();
-    let mut count: usize = 0;
-    let mut turns = u64::MAX;
-    while 0 < turns {
-        let r = read_some(from, &to, replay, count, &mut line);
-        replay = r.replay;
-        count = r.count;
-        turns = turns_left(turns, r.is_more);
+    let mut reading = Reading {
+        replay: begin(),
+        count: 0,
+    };
+    for _turn in 0..u64::MAX {
+        match read_some(from, &to, reading, &mut line) {
+            Some(next) => reading = next,
+            None => break,
+        }
     }
-    finish(&to, replay, &line[..count]);
+    finish(&to, reading.replay, &line[..reading.count]);
 }

@@ -7,10 +7,9 @@ use headend_state::state::fresh;
 use key_association::record::Assoc;
 use key_association::search::missed_at;
 use questions::limits::RECORDS_MAX;
-use questions::refusal::is_done;
 use questions::settings::{Settings, no_settings};
 use replay_apply::ends::Ends;
-use replay_read::setup::{ReadModem, ReadSettings};
+use replay_read::setup::ReadModem;
 
 // The line that comes next: one of the four of set-up, or a call; or the run is over.
 #[derive(Clone, Copy)]
@@ -34,21 +33,18 @@ pub struct Replay {
 fn blank_record() -> Assoc
     ensures { result ≡ blank }
 {
-    let f = missed_at(0);
-    f.held
+    missed_at(0).held
 }
 
 // The fresh pair with 64 blank records.
 fn fresh_ends(settings: Settings, address: u64, said: u16) -> Ends
     ensures { result ≡ fresh_ends_of settings address said }
 {
-    let head = fresh(settings);
-    let modem = modem_steps::state::fresh(settings, address, said);
-    let a = blank_record();
+    let blank = blank_record();
     Ends {
-        head: head,
-        records: [a; RECORDS_MAX],
-        modem: modem,
+        head: fresh(settings),
+        records: [blank; RECORDS_MAX],
+        modem: modem_steps::state::fresh(settings, address, said),
     }
 }
 
@@ -57,11 +53,10 @@ pub fn begin() -> Replay
     ensures { result ≡ beginning }
 {
     let settings = no_settings();
-    let ends = fresh_ends(settings, 0, 0);
     Replay {
         stage: Stage::SettingsNames,
-        settings: settings,
-        ends: ends,
+        settings,
+        ends: fresh_ends(settings, 0, 0),
     }
 }
 
@@ -69,28 +64,20 @@ pub fn begin() -> Replay
 pub fn at_stage(s: Replay, stage: Stage) -> Replay
     ensures { result ≡ at_stage_of s stage }
 {
-    let settings = s.settings;
-    let ends = s.ends;
-    Replay {
-        stage: stage,
-        settings: settings,
-        ends: ends,
-    }
+    Replay { stage, ..s }
 }
 
 // A run after the line of settings; it is over where the line has not its form.
-pub fn settings_read(r: ReadSettings, s: Replay) -> Replay
+pub fn settings_read(r: Option<Settings>, s: Replay) -> Replay
     ensures { result ≡ settings_read_of r s }
 {
-    if !r.is_form {
-        return at_stage(s, Stage::Stopped);
-    }
-    let settings = r.settings;
-    let ends = s.ends;
-    Replay {
-        stage: Stage::ModemNames,
-        settings: settings,
-        ends: ends,
+    match r {
+        Some(settings) => Replay {
+            stage: Stage::ModemNames,
+            settings,
+            ..s
+        },
+        None => at_stage(s, Stage::Stopped),
     }
 }
 
@@ -100,24 +87,19 @@ pub fn both_fit(settings: Settings, address: u64, said: u16) -> bool
 {
     let h = headend_calls::calls::new(settings);
     let m = modem_calls::calls::new(settings, address, said);
-    let a = h.answer;
-    let b = m.answer;
-    is_done(a) & is_done(b)
+    h.answer.is_ok() & m.answer.is_ok()
 }
 
 // A run after the line of a modem; it is over where the line has not its form or an end refuses it.
-pub fn modem_read(r: ReadModem, s: Replay) -> Replay
+pub fn modem_read(r: Option<ReadModem>, s: Replay) -> Replay
     ensures { result ≡ modem_read_of r s }
 {
-    let settings = s.settings;
-    let fits = both_fit(settings, r.address, r.said);
-    if r.is_form & fits {
-        let ends = fresh_ends(settings, r.address, r.said);
-        return Replay {
+    match r {
+        Some(m) if both_fit(s.settings, m.address, m.said) => Replay {
             stage: Stage::Running,
-            settings: settings,
-            ends: ends,
-        };
+            ends: fresh_ends(s.settings, m.address, m.said),
+            ..s
+        },
+        _ => at_stage(s, Stage::Stopped),
     }
-    at_stage(s, Stage::Stopped)
 }

@@ -41,18 +41,14 @@ fn put_given(
     ensures puts_given { PutsGiven kind a tek.now vector.now frame.now sent.now out.old result out.new }
     ensures upper_bound { result ≤ answer_line }
 {
-    let width = a.width;
-    let size = a.frame;
-    let count = a.count;
-    let k = a.key;
     put_answer(
         kind,
         a.number,
-        k.0,
-        &tek[..width],
-        &vector[..width],
-        &frame[..size],
-        &sent[..count],
+        a.key.0,
+        &tek[..a.width],
+        &vector[..a.width],
+        &frame[..a.frame],
+        &sent[..a.count],
         out,
     )
 }
@@ -88,12 +84,10 @@ fn applied_line(
         &mut sent,
         frame,
     );
-    let ends = a.ends;
-    let kind = c.kind;
-    let n = put_given(kind, a, &tek, &vector, frame, &sent, out);
+    let count = put_given(c.kind, a, &tek, &vector, frame, &sent, out);
     Turned {
-        count: n,
-        ends: ends,
+        count,
+        ends: a.ends,
     }
 }
 
@@ -103,28 +97,23 @@ fn call_line(e: Ends, line: &[u8], r: ReadCall, out: &mut [u8]) -> Turned
     ensures answers_step { AnswersStep e (step_read r line.now) r.call.kind out.old result.ends result.count out.new }
     ensures count_le_answer_line { result.count ≤ answer_line }
 {
-    let c = r.call;
-    let o = r.octets;
-    let a = r.auth;
-    let k = r.read;
-    let w = r.write;
     let mut octets = [0u8; LINE_OCTETS];
     let mut auth = [0u8; LINE_OCTETS];
     let mut read = [0u8; LINE_OCTETS];
     let mut write = [0u8; LINE_OCTETS];
     let mut frame = [0u8; LINE_OCTETS];
-    put_octets_at(line, o.at, o.count, &mut octets);
-    put_octets_at(line, a.at, a.count, &mut auth);
-    put_octets_at(line, k.at, k.count, &mut read);
-    put_octets_at(line, w.at, w.count, &mut write);
+    put_octets_at(line, r.octets.at, r.octets.count, &mut octets);
+    put_octets_at(line, r.auth.at, r.auth.count, &mut auth);
+    put_octets_at(line, r.read.at, r.read.count, &mut read);
+    put_octets_at(line, r.write.at, r.write.count, &mut write);
     applied_line(
         e,
-        c,
-        &octets[..o.count],
-        &auth[..a.count],
-        &read[..k.count],
-        &write[..w.count],
-        &mut frame[..o.count],
+        r.call,
+        &octets[..r.octets.count],
+        &auth[..r.auth.count],
+        &read[..r.read.count],
+        &write[..r.write.count],
+        &mut frame[..r.octets.count],
         out,
     )
 }
@@ -134,8 +123,8 @@ fn no_call(e: Ends, out: &mut [u8]) -> Turned
     requires { answer_line ≤ length out.old }
     ensures { (result ≡ record { count = 2; ends = e }) × (out.new ≡ overlay out.old no_call_text) }
 {
-    let n = put_no_call(out);
-    Turned { count: n, ends: e }
+    let count = put_no_call(out);
+    Turned { count, ends: e }
 }
 
 // A line of a run that has its set-up: the ends after it, and its answer at the front of `out`.
@@ -147,9 +136,8 @@ pub fn turn(e: Ends, line: &[u8], out: &mut [u8]) -> Turned
     if LINE_MAX < line.len() {
         return no_call(e, out);
     }
-    let r = read_call(line);
-    if !r.is_call {
-        return no_call(e, out);
+    match read_call(line) {
+        Some(r) => call_line(e, line, r, out),
+        None => no_call(e, out),
     }
-    call_line(e, line, r, out)
 }

@@ -1,25 +1,17 @@
 -- Laws of what is written: a number and the octet after it, and the parts of an answer.
 use mathlib.Core.Path.{◌≡◌, sym, ap}
 use mathlib.Core.Bool.{Bool, true, false}
-use mathlib.Core.List.{List, [], ◌∷◌}
+use mathlib.Core.List.{List}
 use Prim.Native.Nat.{ℕ, ◌+◌, ◌≤◌}
 use native.Mathlib.Omega.{arith}
-use lib.ListN.{length, set, length-append}
+use lib.ListN.{length}
 use lib.Seq.{sets}
 use Rattle.key_traffic.specs.Put.{Put}
 use Rattle.key_traffic.specs.Octets.{overlay}
-use Rattle.key_traffic.proofs.StoreLaws.{sets_append, put_as, put_none, put_whole}
+use Rattle.key_traffic.proofs.StoreLaws.{put_as, put_none, put_whole}
 use Rattle.replay_read.specs.declared.calls.Kind.{Kind}
-use Rattle.text.specs.Decimal.{decimal_of, number_text}
+use Rattle.text.specs.Decimal.{decimal_of}
 use Rattle.replay_answer.specs.Answer.{text_if, rest_text}
-
-pub put-number : (d : List ℕ) (at n after : ℕ) → set (sets d at (decimal_of n)) (at + length (decimal_of n)) after ≡ sets d at (number_text n after)
-unfolding number_text
-put-number d at n after = sym (sets_append (decimal_of n) (after ∷ []) d at)
-
-pub length_number : (n after : ℕ) → length (number_text n after) ≡ length (decimal_of n) + 1
-unfolding number_text
-length_number n after = length-append (decimal_of n) (after ∷ [])
 
 pub decimal_put : (d : List ℕ) (at n r : ℕ) (e : List ℕ) → e ≡ sets d at (decimal_of n) → r ≡ at + length (decimal_of n) → Put d at (decimal_of n) r e
 decimal_put d at n r e p q = record { after = q; stored = p }

@@ -1,6 +1,5 @@
 // The line of an answer and the line of the counts, written at the front of a lent slice.
-ghost use Rattle.std.specs.Prelude.{◌≡◌, ◌∷◌, [], ◌+◌, ◌*◌, ◌≤◌, ◌<◌, length};
-ghost use Rattle.text.specs.Decimal.{number_text};
+ghost use Rattle.std.specs.Prelude.{◌≡◌, ◌+◌, ◌*◌, ◌≤◌, length};
 ghost use Rattle.key_traffic.specs.Put.{Put};
 ghost use Rattle.key_traffic.specs.Octets.{overlay};
 ghost use Rattle.replay_answer.specs.Answer.{Room, answer_line, text_if, comma_hex, keys_text, seal_text, open_text, seal_frame_text, open_frame_text, rest_text, answer_text, counts_text};
@@ -10,19 +9,10 @@ use replay_read::calls::Kind;
 use text::characters::LINE_FEED;
 use text::decimal::put_decimal;
 use text::hex::put_hex;
+use text::put::{put_number, put_octet, put_text};
 
 // Characters that the longest answer needs at most.
 pub const ANSWER_LINE: usize = 17408;
-
-// One octet.
-fn put_octet(out: &mut [u8], at: usize, x: u8) -> usize
-    requires { at < length out.old }
-    ensures put { Put out.old at (x ∷ []) result out.new }
-    ensures value { result ≡ at + 1 }
-{
-    out[at] = x;
-    at + 1
-}
 
 // A comma and octets in hexadecimal.
 fn put_comma_hex(out: &mut [u8], at: usize, v: &[u8]) -> usize
@@ -34,16 +24,13 @@ fn put_comma_hex(out: &mut [u8], at: usize, v: &[u8]) -> usize
     put_hex(out, a, v)
 }
 
-// Octets that are sent, or nothing.
+// Octets that are sent, or nothing. It and `put_frame` differ in the longest that they take, which their callers' room rests on.
 fn put_sent(out: &mut [u8], at: usize, on: bool, sent: &[u8]) -> usize
     requires { (length sent.now ≤ 342) × (at + 685 ≤ length out.old) }
     ensures put { Put out.old at (text_if on (comma_hex sent.now)) result out.new }
     ensures upper_bound { result ≤ at + 685 }
 {
-    if !on {
-        return at;
-    }
-    put_comma_hex(out, at, sent)
+    if on { put_comma_hex(out, at, sent) } else { at }
 }
 
 // A TEK and a vector.
@@ -74,10 +61,11 @@ fn put_keys_if(out: &mut [u8], at: usize, on: bool, tek: &[u8], vector: &[u8]) -
     ensures put { Put out.old at (text_if on (keys_text tek.now vector.now)) result out.new }
     ensures upper_bound { result ≤ at + 66 }
 {
-    if !on {
-        return at;
+    if on {
+        put_keys(out, at, tek, vector)
+    } else {
+        at
     }
-    put_keys(out, at, tek, vector)
 }
 
 fn put_open(out: &mut [u8], at: usize, number: u8, tek: &[u8], vector: &[u8], sent: &[u8]) -> usize
@@ -95,10 +83,11 @@ fn put_frame(out: &mut [u8], at: usize, on: bool, frame: &[u8]) -> usize
     ensures put { Put out.old at (text_if on (comma_hex frame.now)) result out.new }
     ensures upper_bound { result ≤ at + 16385 }
 {
-    if !on {
-        return at;
+    if on {
+        put_comma_hex(out, at, frame)
+    } else {
+        at
     }
-    put_comma_hex(out, at, frame)
 }
 
 fn put_seal_frame(out: &mut [u8], at: usize, number: u8, key: u8, frame: &[u8]) -> usize
@@ -141,19 +130,13 @@ fn put_rest(
 {
     match kind {
         Kind::List => at,
-        Kind::Clock => put_sent(out, at, number == DONE, sent),
-        Kind::Established => put_sent(out, at, number == DONE, sent),
-        Kind::Reauth => put_sent(out, at, number == DONE, sent),
-        Kind::Up => put_sent(out, at, number == DONE, sent),
-        Kind::Down => put_sent(out, at, number == DONE, sent),
-        Kind::SealDown => put_seal(out, at, number, key, tek, vector),
-        Kind::SealUp => put_seal(out, at, number, key, tek, vector),
-        Kind::OpenUp => put_open(out, at, number, tek, vector, sent),
-        Kind::OpenDown => put_open(out, at, number, tek, vector, sent),
-        Kind::SealDownFrame => put_seal_frame(out, at, number, key, frame),
-        Kind::SealUpFrame => put_seal_frame(out, at, number, key, frame),
-        Kind::OpenUpFrame => put_open_frame(out, at, number, frame, sent),
-        Kind::OpenDownFrame => put_open_frame(out, at, number, frame, sent),
+        Kind::Clock | Kind::Established | Kind::Reauth | Kind::Up | Kind::Down => {
+            put_sent(out, at, number == DONE, sent)
+        }
+        Kind::SealDown | Kind::SealUp => put_seal(out, at, number, key, tek, vector),
+        Kind::OpenUp | Kind::OpenDown => put_open(out, at, number, tek, vector, sent),
+        Kind::SealDownFrame | Kind::SealUpFrame => put_seal_frame(out, at, number, key, frame),
+        Kind::OpenUpFrame | Kind::OpenDownFrame => put_open_frame(out, at, number, frame, sent),
     }
 }
 
@@ -178,30 +161,6 @@ pub fn put_answer(
     put_octet(out, b, LINE_FEED)
 }
 
-// A number and the octet after it.
-fn put_number(out: &mut [u8], at: usize, n: u64, after: u8) -> usize
-    requires { at + 21 ≤ length out.old }
-    ensures put { Put out.old at (number_text n after) result out.new }
-    ensures upper_bound { result ≤ at + 21 }
-{
-    let end = put_decimal(out, at, n);
-    out[end] = after;
-    end + 1
-}
-
-// Copies a text to the front.
-fn put_text(out: &mut [u8], text: &[u8]) -> usize
-    requires { length text.now ≤ length out.old }
-    ensures { Put out.old 0 text.now result out.new }
-{
-    let mut i: usize = 0;
-    while i < text.len() {
-        out[i] = text[i];
-        i += 1;
-    }
-    i
-}
-
 // Writes the line of the counts and answers its length.
 pub fn put_counts(
     head_taken: u64,
@@ -215,7 +174,7 @@ pub fn put_counts(
     ensures value { result ≡ length (counts_text head_taken head_refused modem_taken modem_refused) }
     ensures upper_bound { result ≤ 128 }
 {
-    let a = put_text(out, b"frames,");
+    let a = put_text(out, 0, b"frames,");
     let b = put_number(out, a, head_taken, b',');
     let c = put_number(out, b, head_refused, b',');
     let d = put_number(out, c, modem_taken, b',');

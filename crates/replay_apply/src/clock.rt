@@ -8,7 +8,7 @@ use crate::ends::{Applied, Ends, refused};
 use crate::held::clock_held;
 use crate::modem_side::clock_modem;
 use modem_calls::calls::clock_answer;
-use questions::refusal::{answer_number, earlier_number, is_done};
+use questions::refusal::{answer_number, earlier_number};
 use replay_read::calls::Call;
 
 // The clock goes to the second at both ends, or at neither; where both refuse, the number is the earlier question's.
@@ -16,18 +16,12 @@ pub fn apply_clock(e: Ends, c: Call, octets: &[u8], write: &[u8], out: &mut [u8]
     ensures { AppliesSent (world_of e) (clock c.second octets.now write.now (length out.old))
         out.old result out.new }
 {
-    let head = e.head;
-    let records = e.records;
-    let r = clock_held(head, records, c.second, octets);
-    let called = r.called;
-    let a = called.answer;
-    if !is_done(a) {
-        let m = e.modem;
-        let b = clock_answer(m, c.second, write, out.len());
-        let number = earlier_number(answer_number(a), answer_number(b));
-        return refused(number, e);
+    let r = clock_held(e.head, e.records, c.second, octets);
+    match r.called.answer {
+        Ok(()) => clock_modem(e, r.called.state, r.records, c.second, write, out),
+        Err(no) => {
+            let other = clock_answer(e.modem, c.second, write, out.len());
+            refused(earlier_number(u8::from(no), answer_number(other)), e)
+        }
     }
-    let state = called.state;
-    let after = r.records;
-    clock_modem(e, state, after, c.second, write, out)
 }

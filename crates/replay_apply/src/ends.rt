@@ -39,17 +39,17 @@ pub fn quiet(
     ensures { result ≡ quiet_of number count head records modem }
 {
     let ends = Ends {
-        head: head,
-        records: records,
-        modem: modem,
+        head,
+        records,
+        modem,
     };
     Applied {
-        number: number,
+        number,
         key: TekNumber(0),
         width: 0,
         frame: 0,
-        count: count,
-        ends: ends,
+        count,
+        ends,
     }
 }
 
@@ -58,7 +58,7 @@ pub fn refused(number: u8, e: Ends) -> Applied
     ensures { result ≡ refused_of number e }
 {
     Applied {
-        number: number,
+        number,
         key: TekNumber(0),
         width: 0,
         frame: 0,

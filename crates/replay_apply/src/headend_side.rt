@@ -21,19 +21,15 @@ use replay_read::calls::Call;
 fn of_head(c: Called, records: [Assoc; RECORDS_MAX], modem: Modem) -> Applied
     ensures { result ≡ quiet_of (answer_number_of c.answer) c.count c.state records modem }
 {
-    let a = c.answer;
-    let number = answer_number(a);
-    quiet(number, c.count, c.state, records, modem)
+    quiet(answer_number(c.answer), c.count, c.state, records, modem)
 }
 
 // A listing.
 pub fn apply_list(e: Ends, c: Call, octets: &[u8]) -> Applied
     ensures { result ≡ applied_of (world_of e) (list c.address c.word c.listing octets.now) }
 {
-    let records = e.records;
-    let r = list_held(e.head, records, c.address, c.word, c.listing, octets);
-    let listed = r.records;
-    of_head(r.called, listed, e.modem)
+    let r = list_held(e.head, e.records, c.address, c.word, c.listing, octets);
+    of_head(r.called, r.records, e.modem)
 }
 
 // A message to the head-end.
@@ -49,9 +45,8 @@ pub fn apply_up(
     ensures { AppliesSent (world_of e) (up c.address read.now write.now octets.now auth.now (length out.old))
         out.old result out.new }
 {
-    let records = e.records;
-    let r = receive_held(e.head, records, c.address, read, write, octets, auth, out);
-    of_head(r, records, e.modem)
+    let r = receive_held(e.head, e.records, c.address, read, write, octets, auth, out);
+    of_head(r, e.records, e.modem)
 }
 
 // A frame that the head-end sends.
@@ -59,14 +54,10 @@ pub fn apply_seal_down(e: Ends, c: Call, tek: &mut [u8], vector: &mut [u8]) -> A
     ensures { AppliesKey (world_of e) (seal_down c.address c.said (length tek.old) (length vector.old))
         tek.old vector.old result tek.new vector.new }
 {
-    let records = e.records;
-    let r = seal_held(e.head, records, c.address, c.said, tek, vector);
-    let a = r.answer;
-    let key = r.number;
-    let number = answer_number(a);
+    let r = seal_held(e.head, e.records, c.address, c.said, tek, vector);
     Applied {
-        number: number,
-        key: key,
+        number: answer_number(r.answer),
+        key: r.number,
         width: r.width,
         frame: 0,
         count: 0,
@@ -86,26 +77,16 @@ pub fn apply_open_up(
     ensures { AppliesKeySent (world_of e) (open_up_of c.word c.address c.said c.number write.now (length tek.old) (length vector.old) (length out.old))
         tek.old vector.old out.old result tek.new vector.new out.new }
 {
-    let records = e.records;
-    let modem = e.modem;
     let r = open_held(
-        e.head, records, c.word, c.address, c.said, c.number, write, tek, vector, out,
+        e.head, e.records, c.word, c.address, c.said, c.number, write, tek, vector, out,
     );
-    let a = r.answer;
-    let state = r.state;
-    let number = answer_number(a);
-    let ends = Ends {
-        head: state,
-        records: records,
-        modem: modem,
-    };
     Applied {
-        number: number,
+        number: answer_number(r.answer),
         key: TekNumber(0),
         width: r.width,
         frame: 0,
         count: r.count,
-        ends: ends,
+        ends: Ends { head: r.state, ..e },
     }
 }
 
@@ -114,14 +95,10 @@ pub fn apply_seal_down_frame(e: Ends, c: Call, octets: &[u8], frame: &mut [u8]) 
     ensures { AppliesFrame (world_of e) (seal_down_frame_of c.address c.said octets.now (length frame.old))
         frame.old result frame.new }
 {
-    let records = e.records;
-    let r = seal_frame_held(e.head, records, c.address, c.said, octets, frame);
-    let a = r.answer;
-    let key = r.number;
-    let number = answer_number(a);
+    let r = seal_frame_held(e.head, e.records, c.address, c.said, octets, frame);
     Applied {
-        number: number,
-        key: key,
+        number: answer_number(r.answer),
+        key: r.number,
         width: 0,
         frame: r.width,
         count: 0,
@@ -141,25 +118,15 @@ pub fn apply_open_up_frame(
     ensures { AppliesFrameSent (world_of e) (open_up_frame_of c.word c.address c.said c.number octets.now write.now (length frame.old) (length out.old))
         frame.old out.old result frame.new out.new }
 {
-    let records = e.records;
-    let modem = e.modem;
     let r = open_frame_held(
-        e.head, records, c.word, c.address, c.said, c.number, octets, write, frame, out,
+        e.head, e.records, c.word, c.address, c.said, c.number, octets, write, frame, out,
     );
-    let a = r.answer;
-    let state = r.state;
-    let number = answer_number(a);
-    let ends = Ends {
-        head: state,
-        records: records,
-        modem: modem,
-    };
     Applied {
-        number: number,
+        number: answer_number(r.answer),
         key: TekNumber(0),
         width: 0,
         frame: r.width,
         count: r.count,
-        ends: ends,
+        ends: Ends { head: r.state, ..e },
     }
 }

@@ -27,10 +27,7 @@ pub struct Changed {
 fn with_records(c: Called, records: [Assoc; RECORDS_MAX]) -> Changed
     ensures { result ≡ record { called = c; records = records } }
 {
-    Changed {
-        called: c,
-        records: records,
-    }
+    Changed { called: c, records }
 }
 
 // Lists a modem.

@@ -16,16 +16,14 @@ use modem_frames::frames::{open, seal};
 use modem_frames::octets::{open_frame, seal_frame};
 use modem_steps::state::Called;
 use questions::limits::RECORDS_MAX;
-use questions::refusal::{answer_number, is_done};
+use questions::refusal::answer_number;
 use replay_read::calls::Call;
 
 // What a call of the modem gives, with the head-end and its records.
 fn of_modem(c: Called, head: HeadEnd, records: [Assoc; RECORDS_MAX]) -> Applied
     ensures { result ≡ quiet_of (answer_number_of c.answer) c.count head records c.modem }
 {
-    let a = c.answer;
-    let number = answer_number(a);
-    quiet(number, c.count, head, records, c.modem)
+    quiet(answer_number(c.answer), c.count, head, records, c.modem)
 }
 
 // The modem's part of the clock, with the head-end and the records after theirs.
@@ -41,12 +39,10 @@ pub fn clock_modem(
         × (out.new ≡ overlay out.old (clock_of e.modem t write.now (length out.old)).written) }
 {
     let c = clock(e.modem, t, write, out);
-    let a = c.answer;
-    if !is_done(a) {
-        let number = answer_number(a);
-        return refused(number, e);
+    match c.answer {
+        Ok(()) => of_modem(c, head, records),
+        Err(no) => refused(u8::from(no), e),
     }
-    of_modem(c, head, records)
 }
 
 // Event established of the modem's authorization machine.
@@ -54,9 +50,8 @@ pub fn apply_established(e: Ends, out: &mut [u8]) -> Applied
     ensures { AppliesSent (world_of e) (World.established (length out.old))
         out.old result out.new }
 {
-    let records = e.records;
     let c = established(e.modem, out);
-    of_modem(c, e.head, records)
+    of_modem(c, e.head, e.records)
 }
 
 // Event reauth of it.
@@ -64,9 +59,8 @@ pub fn apply_reauth(e: Ends, out: &mut [u8]) -> Applied
     ensures { AppliesSent (world_of e) (World.reauth (length out.old))
         out.old result out.new }
 {
-    let records = e.records;
     let c = reauth(e.modem, out);
-    of_modem(c, e.head, records)
+    of_modem(c, e.head, e.records)
 }
 
 // A message to the modem.
@@ -74,9 +68,8 @@ pub fn apply_down(e: Ends, octets: &[u8], read: &[u8], write: &[u8], out: &mut [
     ensures { AppliesSent (world_of e) (World.down read.now write.now octets.now (length out.old))
         out.old result out.new }
 {
-    let records = e.records;
     let r = receive(e.modem, octets, read, write, out);
-    of_modem(r, e.head, records)
+    of_modem(r, e.head, e.records)
 }
 
 // A frame that the modem sends.
@@ -85,12 +78,9 @@ pub fn apply_seal_up(e: Ends, c: Call, tek: &mut [u8], vector: &mut [u8]) -> App
         tek.old vector.old result tek.new vector.new }
 {
     let r = seal(e.modem, c.said, tek, vector);
-    let a = r.answer;
-    let key = r.number;
-    let number = answer_number(a);
     Applied {
-        number: number,
-        key: key,
+        number: answer_number(r.answer),
+        key: r.number,
         width: r.width,
         frame: 0,
         count: 0,
@@ -110,26 +100,19 @@ pub fn apply_open_down(
     ensures { AppliesKeySent (world_of e) (World.open_down c.word c.address c.said c.number write.now (length tek.old) (length vector.old) (length out.old))
         tek.old vector.old out.old result tek.new vector.new out.new }
 {
-    let head = e.head;
-    let records = e.records;
     let r = open(
         e.modem, c.word, c.address, c.said, c.number, write, tek, vector, out,
     );
-    let a = r.answer;
-    let after = r.modem;
-    let number = answer_number(a);
-    let ends = Ends {
-        head: head,
-        records: records,
-        modem: after,
-    };
     Applied {
-        number: number,
+        number: answer_number(r.answer),
         key: TekNumber(0),
         width: r.width,
         frame: 0,
         count: r.count,
-        ends: ends,
+        ends: Ends {
+            modem: r.modem,
+            ..e
+        },
     }
 }
 
@@ -139,12 +122,9 @@ pub fn apply_seal_up_frame(e: Ends, c: Call, octets: &[u8], frame: &mut [u8]) ->
         frame.old result frame.new }
 {
     let r = seal_frame(e.modem, c.said, octets, frame);
-    let a = r.answer;
-    let key = r.number;
-    let number = answer_number(a);
     Applied {
-        number: number,
-        key: key,
+        number: answer_number(r.answer),
+        key: r.number,
         width: 0,
         frame: r.width,
         count: 0,
@@ -164,25 +144,18 @@ pub fn apply_open_down_frame(
     ensures { AppliesFrameSent (world_of e) (World.open_down_frame_of c.word c.address c.said c.number octets.now write.now (length frame.old) (length out.old))
         frame.old out.old result frame.new out.new }
 {
-    let head = e.head;
-    let records = e.records;
     let r = open_frame(
         e.modem, c.word, c.address, c.said, c.number, octets, write, frame, out,
     );
-    let a = r.answer;
-    let after = r.modem;
-    let number = answer_number(a);
-    let ends = Ends {
-        head: head,
-        records: records,
-        modem: after,
-    };
     Applied {
-        number: number,
+        number: answer_number(r.answer),
         key: TekNumber(0),
         width: 0,
         frame: r.width,
         count: r.count,
-        ends: ends,
+        ends: Ends {
+            modem: r.modem,
+            ..e
+        },
     }
 }

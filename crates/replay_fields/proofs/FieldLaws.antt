@@ -4,12 +4,17 @@ use mathlib.Core.Bool.{Bool, true, false, cond}
 use mathlib.Core.List.{List, [], ◌∷◌}
 use Prim.Native.Nat.{ℕ, suc, ◌+◌, ◌-◌, ◌≤◌, ◌<◌, min}
 use native.Mathlib.Nat.{add-zero, add-sub_cancel_left}
-use native.Mathlib.Numerals.{add-one}
 use native.Mathlib.Omega.{arith}
 use lib.Dec.{leb, ltb, eqb, leb-zero, leb-suc-suc}
-use lib.ListN.{length, get_or, take, drop, length-take, length-drop, drop_of_length-le}
-use lib.Seq.{drop-cons, drop-drop, get_or-drop}
-use borrow.Author.Tests.{le-leb, lt-leb, leb-true, leb-false, eq-eqb, ne_eqb}
+use lib.ListN.{length, take, drop, length-take, length-drop}
+use lib.Seq.{drop-drop, get_or-drop}
+use borrow.Author.Tests.{le-leb, lt-leb, leb-true, leb-false}
+use Rattle.std.proofs.Common.{count_by}
+use Rattle.std.specs.Prelude.{Some, None, unwrap_or}
+use Rattle.std.specs.List.{position, position_or_len}
+use Rattle.std.proofs.lemmas.List.{drop_min}
+use Rattle.std.proofs.lemmas.List.Sums.{sum_by-cons}
+use Rattle.std.proofs.lemmas.List.Recursion.{is_position_or_len}
 use Rattle.questions.proofs.ListLaws.{IfLt, if_lt}
 use Rattle.replay_fields.specs.declared.fields.Field.{Field}
 use Rattle.replay_fields.specs.Fields.{joined, cut_when, fields_of, field}
@@ -41,18 +46,38 @@ joined_length : (b : ℕ) (fs : List (List ℕ)) → length (field (joined b fs)
 joined_length b [] = refl
 joined_length b (f ∷ fs) = refl
 
-module _ (l : List ℕ) (i : ℕ) where
-  pub first_end : length l ≤ i → length (first (drop i l)) ≡ 0
-  unfolding fields_of
-  first_end h = rw (drop_of_length-le l h)
+first_more : (b : ℕ) (l : List ℕ) → length (first (b ∷ l)) ≡ cond (eqb b 44) 0 (1 + length (first l))
+unfolding fields_of
+first_more b l = go (eqb b 44)
+  where
+    go : (t : Bool) → length (field (cut_when t b (fields_of l)) 0) ≡ cond t 0 (1 + length (first l))
+    go true = refl
+    go false = omega (arith, joined_length b (fields_of l))
 
-  pub first_comma : i < length l → get_or l i 0 ≡ 44 → length (first (drop i l)) ≡ 0
-  unfolding fields_of
-  first_comma h e = rw (drop-cons l i 0 h, eq-eqb (get_or l i 0) 44 e)
+-- the first field ends at the first comma, or the end
+pub first_position : (l : List ℕ) → length (first l) ≡ position_or_len (λ x. eqb x 44) l
+unfolding fields_of
+first_position = is_position_or_len (λ l. length (first l)) (λ x. eqb x 44) refl first_more
 
-  pub first_other : i < length l → (get_or l i 0 ≡ 44 → ⊥) → length (first (drop i l)) ≡ suc (length (first (drop (i + 1) l)))
-  unfolding fields_of
-  first_other h e = rw (drop-cons l i 0 h, ne_eqb (get_or l i 0) 44 e, add-one i) (joined_length (get_or l i 0) (fields_of (drop (suc i) l)))
+-- as the code finds it
+pub first_found : (l : List ℕ) → unwrap_or (position (λ x. eqb x 44) l) (length l) ≡ length (first l)
+first_found l = go (ltb (position_or_len (λ x. eqb x 44) l) (length l)) (if_lt (position_or_len (λ x. eqb x 44) l) (length l))
+  where
+    go : (t : Bool) → IfLt (position_or_len (λ x. eqb x 44) l) (length l) t → unwrap_or (cond t (Some (position_or_len (λ x. eqb x 44) l)) None) (length l) ≡ length (first l)
+    go true h = sym (first_position l)
+    go false h = omega (arith, first_position l, first_length l)
+
+-- one more than the commas
+pub count_commas : (l : List ℕ) → count_by (λ x. eqb x 44) l + 1 ≡ length (fields_of l)
+unfolding fields_of
+count_commas [] = refl
+count_commas (b ∷ l) =
+    ap (λ (n : ℕ). n + 1) (sum_by-cons (λ x. cond (eqb x 44) 1 0) b l) ∙ go (eqb b 44) (fields_of l) (count_commas l)
+  where
+    go : (t : Bool) (fs : List (List ℕ)) → count_by (λ x. eqb x 44) l + 1 ≡ length fs → cond t 1 0 + count_by (λ x. eqb x 44) l + 1 ≡ length (cut_when t b fs)
+    go true fs e = omega (arith, e)
+    go false [] e = absurd (omega (arith, e))
+    go false (f ∷ fs) e = omega (arith, e)
 
 -- ---- the fields past the first
 
@@ -88,7 +113,7 @@ module _ (l : List ℕ) (at : ℕ) where
   unfolding field_at
   field_past h =
       let m : min at (length l) ≡ length l = omega arith in
-      let z : length (first (drop at l)) ≡ 0 = first_end l at (omega arith) in
+      let z : length (first (drop at l)) ≡ 0 = omega (arith, first_length (drop at l), length-drop at l) in
       let e : length l ≡ length l + 0 = omega arith in
       rw (m, z, ← e)
 
@@ -108,6 +133,11 @@ module _ (l : List ℕ) (at : ℕ) where
   pub place_is : (field_at l at).at ≡ min at (length l)
   unfolding field_at
   place_is = refl
+
+  -- as the code finds it
+  pub field_is : (m n : ℕ) → m ≡ min at (length l) → n ≡ length (first (drop m l)) → ◌≡◌ {A = Field} (record { at = m; end = m + n }) (field_at l at)
+  unfolding field_at
+  field_is m n e q = rw (q, e, drop_min at l)
 
   -- what `field_at` answers
   pub found : (f : Field) → f ≡ field_at l at → (f ≡ field_at l at) × Inside l f
@@ -172,13 +202,6 @@ rest_is l at = go (ltb (length l) at) (if_lt (length l) at)
         ∙ sym (ap (drop 1) (from_past l at h))
     go false h = sym (ap (drop 1) (from_step l at h))
 
--- how many they are
-pub count_end : (l : List ℕ) (at : ℕ) → length l < at → length (fields_from_of l at) ≡ 0
-count_end l at h = ap length (from_past l at h)
-
-pub count_step : (l : List ℕ) (at : ℕ) → at ≤ length l → length (fields_from_of l at) ≡ suc (length (fields_from_of l ((field_at l at).end + 1)))
-count_step l at h = ap length (from_step l at h)
-
 -- the field at a place where all but the first k are left
 module _ (l : List ℕ) (k at : ℕ) (e : fields_from_of l at ≡ drop k (fields_of l)) where
   pub nth_holds : Holds l (field_at l at) (field (fields_of l) k)
@@ -209,9 +232,3 @@ cut_holds l =
       sixth_is = nth_holds l 6 _ (nth_rest l 5 _ r₅);
       rest_is = r₄;
     }
-
--- a field ends at its start or later
-pub next_on : (l : List ℕ) (at : ℕ) (f : Field) → at ≤ length l → f ≡ field_at l at → at < f.end + 1
-next_on l at f h e =
-    let n : f.end ≡ (field_at l at).end = ap (λ (g : Field). g.end) e in
-    omega (arith, place_is l at, (field_inside l at).ordered)

@@ -1,4 +1,3 @@
 pub mod FieldLaws
 pub mod SaidLaws
-pub mod SameLaws
 pub mod ListingLaws

@@ -1,5 +1,5 @@
 -- The fields of a line, cut at its commas, and the number that a field says.
-use Rattle.std.specs.Prelude.{Bool, true, false, ◌&&◌, List, [], ◌∷◌, ℕ, leb, eqb, length, get_or}
+use Rattle.std.specs.Prelude.{Bool, true, false, ◌&&◌, List, [], ◌∷◌, ℕ, leb, eqb, length, get_or, is_some, unwrap_or}
 use Rattle.text.specs.Decimal.{number_at}
 
 -- An octet before the first field
@@ -27,11 +27,11 @@ is_line l = leb (length l) 16384
 
 -- A field that is a number in base ten and nothing else: 1 to 20 digits that say less than 2^64
 unfoldable pub is_number : List ℕ → Bool
-is_number f = (number_at f 0).fits && eqb (number_at f 0).next (length f)
+is_number f = is_some (number_at f 0).value && eqb (number_at f 0).next (length f)
 
--- Which number
+-- Which number; 0 where none stands at its front
 unfoldable pub number_in : List ℕ → ℕ
-number_in f = (number_at f 0).value
+number_in f = unwrap_or (number_at f 0).value 0
 
 -- A number that is 0 or 1
 unfoldable pub is_flag : List ℕ → Bool

@@ -1,15 +1,13 @@
 -- What the inner functions answer: where the fields of a line stand, and what is read of them there.
-use Rattle.std.specs.Prelude.{◌≡◌, Bool, true, false, cond, ◌&&◌, List, [], ℕ, ◌+◌, ◌-◌, ◌/◌, ◌≤◌, min, leb, length, take, drop, set}
+use Rattle.std.specs.Prelude.{◌≡◌, Option, cond, ◌&&◌, List, [], ℕ, ◌+◌, ◌-◌, ◌/◌, ◌≤◌, min, leb, length, take, drop, set}
+use Rattle.std.specs.Bool.{then_some}
 use Rattle.key_association.specs.declared.listing.Listing.{Listing}
 use Rattle.replay_fields.specs.declared.fields.Field.{Field}
-use Rattle.replay_fields.specs.declared.fields.Num.{Num}
 use Rattle.replay_fields.specs.declared.fields.Cuts.{Cuts}
-use Rattle.replay_fields.specs.declared.octets.Octets.{Octets}
+use Rattle.replay_fields.specs.declared.octets.Place.{Place}
 use Rattle.replay_fields.specs.declared.listing.Pair.{Pair}
-use Rattle.replay_fields.specs.declared.listing.Pairs.{Pairs}
 use Rattle.replay_fields.specs.Fields.{fields_of, field, is_number, number_in, is_flag}
 use Rattle.text.specs.Hex.{is_octets}
-use Rattle.key_association.specs.Listing.{no_listing_of}
 use Rattle.replay_fields.specs.Listing.{word_in, is_pairs, listing_in}
 
 -- ---- fields
@@ -68,34 +66,30 @@ pub record Cut (l : List ℕ) (c : Cuts) : Type 0 where
 
 -- ---- what they say
 
-unfoldable pub num_of : List ℕ → Num
-num_of t = record { fits = is_number t; value = number_in t }
+unfoldable pub num_of : List ℕ → Option ℕ
+num_of t = then_some (is_number t) (number_in t)
 
-unfoldable pub flag_of_given : List ℕ → Num
-flag_of_given t = record { fits = is_flag t; value = number_in t }
+unfoldable pub flag_of_given : List ℕ → Option ℕ
+flag_of_given t = then_some (is_flag t) (number_in t)
 
-unfoldable pub octets_for : List ℕ → Field → Octets
-octets_for l f =
-    record { fits = is_octets (text_of l f); place = record { at = f.at; count = (f.end - f.at) / 2 } }
+unfoldable pub octets_for : List ℕ → Field → Option Place
+octets_for l f = then_some (is_octets (text_of l f)) (record { at = f.at; count = (f.end - f.at) / 2 })
 
 -- A SAID and a suite, and the place after them
-unfoldable pub pair_at : List ℕ → ℕ → Pair
+unfoldable pub pair_at : List ℕ → ℕ → Option Pair
 pair_at l at =
-    record {
-      fits = is_number (text_of l (field_at l at)) && is_number (text_of l (after_field l (field_at l at)));
+    then_some
+    (is_number (text_of l (field_at l at)) && is_number (text_of l (after_field l (field_at l at))))
+    (record {
       said = word_in (text_of l (field_at l at));
       suite = word_in (text_of l (after_field l (field_at l at)));
       next = (after_field l (field_at l at)).end + 1;
-    }
+    })
 
 -- A pair more; past the fourth it only counts
 unfoldable pub with_pair_of : Listing → ℕ → ℕ → Listing
 with_pair_of l said suite =
     record { count = l.count + 1; saids = set l.saids l.count said; suites = set l.suites l.count suite }
 
-abbrev pub pairs_when : Bool → Listing → Pairs
-pairs_when true l = record { fits = true; listing = l }
-pairs_when false l = record { fits = false; listing = no_listing_of }
-
-unfoldable pub pairs_of : List (List ℕ) → Pairs
-pairs_of fs = pairs_when (is_pairs fs) (listing_in fs)
+unfoldable pub pairs_of : List (List ℕ) → Option Listing
+pairs_of fs = then_some (is_pairs fs) (listing_in fs)

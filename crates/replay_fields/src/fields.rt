@@ -1,9 +1,9 @@
 // The fields of a line, cut at its commas: where each stands, how many they are, and the number that one says.
-ghost use Rattle.std.specs.Prelude.{◌≡◌, ◌≤◌, min, length};
-ghost use Rattle.text.specs.Same.{same_octets_of};
+ghost use Rattle.std.specs.Prelude.{◌≡◌, ◌≤◌, leb, min, length};
 ghost use Rattle.replay_fields.specs.Fields.{fields_of};
 ghost use Rattle.replay_fields.specs.Places.{Inside, Cut, field_at, text_of, num_of, cuts_of, flag_of_given};
 
+use text::characters::COMMA;
 use text::decimal::number_at;
 
 // The longest line that is read, in characters, and the character after each line.
@@ -12,23 +12,11 @@ pub const LINE_MAX: usize = 16384;
 // A flag is 0 or 1.
 const FLAG_MAX: u64 = 1;
 
-// The largest numbers of one octet and of two.
-const OCTET_MAX: u64 = 255;
-
-const TWO_OCTETS_MAX: u64 = 65535;
-
 // The octets of a line from `at` up to `end`.
 #[derive(Clone, Copy)]
 pub struct Field {
     pub at: usize,
     pub end: usize,
-}
-
-// Whether a field is a number in base ten, and which.
-#[derive(Clone, Copy)]
-pub struct Num {
-    pub fits: bool,
-    pub value: u64,
 }
 
 // How many fields a line has, and where its first seven stand.
@@ -48,18 +36,13 @@ pub struct Cuts {
 pub fn field_at(line: &[u8], at: usize) -> Field
     ensures { (result ≡ field_at line.now at) × Inside line.now result }
 {
-    let n = line.len();
-    if n < at {
-        return Field { at: n, end: n };
+    let at = at.min(line.len());
+    let (_, rest) = line.split_at(at);
+    let count = rest.iter().position(|b| *b == COMMA).unwrap_or(rest.len());
+    Field {
+        at,
+        end: at + count,
     }
-    let mut i = at;
-    while i < line.len() {
-        if line[i] == b',' {
-            return Field { at: at, end: i };
-        }
-        i += 1;
-    }
-    Field { at: at, end: i }
 }
 
 // One more than the line has commas.
@@ -67,14 +50,7 @@ pub fn count_fields(line: &[u8]) -> usize
     requires { length line.now ≤ 16384 }
     ensures { result ≡ length (fields_of line.now) }
 {
-    let mut at: usize = 0;
-    let mut n: usize = 0;
-    while at <= line.len() {
-        let f = field_at(line, at);
-        at = f.end + 1;
-        n += 1;
-    }
-    n
+    line.iter().filter(|b| **b == COMMA).count() + 1
 }
 
 // How many fields a line has, and where they stand.
@@ -91,76 +67,50 @@ pub fn cut_line(line: &[u8]) -> Cuts
     let fifth = field_at(line, fourth.end + 1);
     let sixth = field_at(line, fifth.end + 1);
     Cuts {
-        count: count,
-        name: name,
-        first: first,
-        second: second,
-        third: third,
-        fourth: fourth,
-        fifth: fifth,
-        sixth: sixth,
+        count,
+        name,
+        first,
+        second,
+        third,
+        fourth,
+        fifth,
+        sixth,
     }
 }
 
-// The number that a field of the line says.
-pub fn number_of(line: &[u8], f: Field) -> Num
+// The number that a field of the line says, if it is one and nothing else.
+pub fn number_of(line: &[u8], f: Field) -> Option<u64>
     requires { Inside line.now f }
     ensures { result ≡ num_of (text_of line.now f) }
 {
-    let at = f.at;
-    let end = f.end;
-    let n = number_at(&line[at..end], 0);
-    Num {
-        fits: n.fits & (n.next == end - at),
-        value: n.value,
-    }
-}
-
-// Whether a text is the same as another.
-pub fn same(text: &[u8], other: &[u8]) -> bool
-    ensures { result ≡ same_octets_of text.now other.now }
-{
-    if text.len() != other.len() {
-        return false;
-    }
-    let mut i: usize = 0;
-    while i < other.len() {
-        if text[i] != other[i] {
-            return false;
-        }
-        i += 1;
-    }
-    true
+    let text = &line[f.at..f.end];
+    let n = number_at(text, 0);
+    if n.next == text.len() { n.value } else { None }
 }
 
 // The number that a field says, where it is 0 or 1.
-pub fn flag_of(line: &[u8], f: Field) -> Num
+#[tactic(auto, unfolding(crate::specs::Places::num_of, crate::specs::Places::flag_of_given, crate::specs::Fields::is_flag))]
+pub fn flag_of(line: &[u8], f: Field) -> Option<u64>
     requires { Inside line.now f }
     ensures { result ≡ flag_of_given (text_of line.now f) }
 {
-    let n = number_of(line, f);
-    Num {
-        fits: n.fits & (n.value <= FLAG_MAX),
-        value: n.value,
-    }
+    number_of(line, f).filter(
+        |n|
+            ensures { result ≡ leb n.now 1 }
+        { *n <= FLAG_MAX },
+    )
 }
 
-// A number as an octet; one that is larger is taken as the largest.
+// A number as an octet; one that is larger is taken as the largest. This and the next are a line each, which a generic one would not shorten.
 pub fn to_u8(n: u64) -> u8
     ensures { result ≡ min n 255 }
 {
-    if OCTET_MAX < n {
-        return u8::MAX;
-    }
-    n as u8
+    u8::try_from(n).unwrap_or(u8::MAX)
 }
 
 // The same as two octets.
 pub fn to_u16(n: u64) -> u16
     ensures { result ≡ min n 65535 }
 {
-    if TWO_OCTETS_MAX < n {
-        return u16::MAX;
-    }
-    n as u16
+    u16::try_from(n).unwrap_or(u16::MAX)
 }

@@ -12,27 +12,16 @@ pub struct Place {
     pub count: usize,
 }
 
-// Whether a field is octets, and where they stand.
-#[derive(Clone, Copy)]
-pub struct Octets {
-    pub fits: bool,
-    pub place: Place,
-}
-
-// The octets that a field of the line says.
-pub fn octets_of(line: &[u8], f: Field) -> Octets
+// Where the octets stand that a field of the line says, if it says octets.
+#[tactic(auto, unfolding(crate::specs::Places::octets_for, crate::specs::Places::text_of, text::specs::Hex::is_octets))]
+pub fn octets_of(line: &[u8], f: Field) -> Option<Place>
     requires { Inside line.now f }
     ensures { result ≡ octets_for line.now f }
 {
-    let at = f.at;
-    let end = f.end;
-    let n = end - at;
+    let text = &line[f.at..f.end];
     let place = Place {
-        at: at,
-        count: n / 2,
+        at: f.at,
+        count: text.len() / 2,
     };
-    Octets {
-        fits: (n % 2 == 0) & all_hex(&line[at..end]),
-        place: place,
-    }
+    ((text.len() % 2 == 0) & all_hex(text)).then_some(place)
 }

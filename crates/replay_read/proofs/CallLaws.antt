@@ -1,115 +1,111 @@
--- Laws of what is read of a line: its places, what is kept of it, and its name.
-use mathlib.Core.Path.{◌≡◌, refl, sym, ap, ◌∙◌, subst}
-use mathlib.Core.Bool.{Bool, true, false}
-use mathlib.Core.List.{List, []}
-use mathlib.Core.Option.{Option, none, some}
-use Prim.Native.Nat.{ℕ, ◌+◌, ◌*◌, ◌-◌, ◌/◌, ◌≤◌, ◌<◌}
-use native.Mathlib.Omega.{arith}
-use lib.ListN.{length, drop}
-use lib.Seq.{take-take}
+-- Laws of each kind of call: what is read of its fields is what the form says of them.
+use Rattle.std.proofs.Common.{◌≡◌, refl, sym, ap, subst, List, ℕ, ◌+◌, min, cond, Option, None, Some, nat_eq, nat_le, ◌≤◌, ◌<◌, ◌∙◌, length, drop}
 use borrow.Author.Tests.{le-leb, lt-leb}
+use mathlib.Core.Bool.{and_assoc, and-true}
+use Rattle.std.specs.Prelude.{option_and_then}
 use Rattle.replay_read.specs.declared.calls.Kind.{Kind}
-use Rattle.replay_read.specs.declared.calls.Call.{Call}
-use Rattle.replay_fields.specs.declared.fields.Field.{Field}
+use Rattle.replay_read.specs.declared.calls.Kind.TheVariants as kind
 use Rattle.replay_fields.specs.declared.fields.Cuts.{Cuts}
-use Rattle.replay_fields.specs.declared.octets.Place.{Place}
-use Rattle.replay_fields.specs.declared.octets.Octets.{Octets}
 use Rattle.replay_read.specs.declared.kept.ReadCall.{ReadCall}
-use Rattle.replay_read.specs.declared.name.Named.{Named}
-use Rattle.replay_fields.specs.Fields.{fields_of, field, is_line}
-use Rattle.text.specs.Hex.{octets_value}
-use Rattle.replay_read.specs.Call.{LineCall, keyless, when, tell_of, tell_by, kind_named_of, call_of}
-use Rattle.replay_fields.specs.Places.{Holds, Cut, text_of, octets_for}
-use Rattle.replay_read.specs.CallPlaces.{named_for, no_place_of, no_read, kept_of, alone_of}
-use Rattle.replay_read.specs.Reads.{At, Reads}
-use Rattle.replay_fields.proofs.SaidLaws.{text_length}
-use Rattle.text.proofs.HexLaws.{octets_even}
+use Rattle.replay_fields.specs.Fields.{fields_of, is_line}
+use Rattle.replay_fields.specs.Places.{Cut, text_of, fields_from_of, num_of, octets_for, pairs_of, flag_of_given}
+use Rattle.replay_read.specs.Calls.{call_with, plain}
+use Rattle.replay_read.specs.Call.{kind_named_of, tell_of, tell_by, call_of, tell_list, tell_clock, tell_bare, tell_up, tell_down}
+use Rattle.replay_read.specs.CallPlaces.{no_place_of, alone_of}
+use Rattle.replay_read.specs.Reads.{Reads}
+use Rattle.replay_read.proofs.StepLaws.{nowhere, Told, place_says, nested, step_count, step_num, step_flag, step_octets, step_pairs, read}
 
--- ---- places
+module _ (l : List ℕ) (c : Cuts) where
+  -- ---- as the code reads them
 
-pub nowhere : (l : List ℕ) (p : Place) → p ≡ no_place_of → At l p []
-unfolding octets_value
-nowhere l p e = subst (λ (q : Place). At l q []) (sym e) (record { within = omega arith; says = refl })
+  abbrev pub clock_read : Option ReadCall
+  clock_read = cond (nat_eq c.count 4) (option_and_then (λ second. (option_and_then (λ octets. (option_and_then (λ key. Some (record { call = plain kind.Clock 0 0 second 0 0; octets = octets; auth = no_place_of; read = no_place_of; write = key })) (octets_for l c.third))) (octets_for l c.second))) (num_of (text_of l c.first))) None
 
--- the digits of a field say its octets
-pub place_says : (l : List ℕ) (f : Field) (o : Octets) (t : List ℕ) → Holds l f t → o ≡ octets_for l f → At l o.place (octets_value t)
-unfolding octets_for text_of
-place_says l f o t h e =
-    let n = (f.end - f.at) / 2 in
-    let even : 2 * n ≤ f.end - f.at = omega arith in
-    let enough : length (text_of l f) ≤ 2 * n + 1 = omega (arith, text_length l f h.inside) in
-    subst (λ (q : Octets). At l q.place (octets_value t)) (sym e)
-    (record {
-      within = omega (arith, h.inside.ordered, h.inside.ended);
-      says =
-          ap octets_value (sym (take-take (2 * n) (f.end - f.at) (drop f.at l) even))
-          ∙ octets_even n (text_of l f) enough
-          ∙ ap octets_value h.text;
-    })
+  abbrev pub bare_read : Kind → Option ReadCall
+  bare_read k = cond (nat_eq c.count 1) (Some (alone_of (plain k 0 0 0 0 0))) None
 
-pub none_reads : (l : List ℕ) (r : ReadCall) → r ≡ no_read → Reads l none r
-none_reads l r e =
-    let n = nowhere l no_place_of refl in
-    subst (Reads l none) (sym e)
-    (record { call_there = refl; call_is = refl; octets_at = n; auth_at = n; read_at = n; write_at = n })
+  abbrev pub up_read : Option ReadCall
+  up_read = cond (nat_eq c.count 6) (option_and_then (λ address. (option_and_then (λ read. (option_and_then (λ write. (option_and_then (λ auth. (option_and_then (λ octets. Some (record { call = plain kind.Up address 0 0 0 0; octets = octets; auth = auth; read = read; write = write })) (octets_for l c.fifth))) (octets_for l c.fourth))) (octets_for l c.third))) (octets_for l c.second))) (num_of (text_of l c.first))) None
 
--- what was read, where it is a call
-pub kept_reads : (l : List ℕ) (t u : Bool) (said : LineCall) (call : Call) (o a d w : Place) (r : ReadCall) → r ≡ kept_of t call o a d w → t ≡ u
-    → (u ≡ true → call ≡ said.call)
-    → At l o said.octets → At l a said.auth → At l d said.read → At l w said.write
-    → Reads l (when u said) r
-kept_reads l t u said call o a d w r e q c at-o at_a at-d at-w =
-    subst (λ (x : ReadCall). Reads l (when u said) x) (sym (e ∙ ap (λ (x : Bool). kept_of x call o a d w) q)) (go u c)
-  where
-    go : (x : Bool) → (x ≡ true → call ≡ said.call) → Reads l (when x said) (kept_of x call o a d w)
-    go true same =
-        record { call_there = refl; call_is = same refl; octets_at = at-o; auth_at = at_a; read_at = at-d; write_at = at-w }
-    go false same = none_reads l no_read refl
+  abbrev pub down_read : Option ReadCall
+  down_read = cond (nat_eq c.count 4) (option_and_then (λ read. (option_and_then (λ key. (option_and_then (λ octets. Some (record { call = plain kind.Down 0 0 0 0 0; octets = octets; auth = no_place_of; read = read; write = key })) (octets_for l c.third))) (octets_for l c.second))) (octets_for l c.first)) None
 
--- where it brings numbers alone
-pub alone_reads : (l : List ℕ) (t u : Bool) (said call : Call) (r : ReadCall) → r ≡ alone_of t call → t ≡ u → call ≡ said → Reads l (when u (keyless said [])) r
-alone_reads l t u said call r e q c =
-    let n = nowhere l no_place_of refl in
-    kept_reads l t u (keyless said []) call no_place_of no_place_of no_place_of no_place_of r e q (λ yes. c) n n n n
+  abbrev pub list_read : Option ReadCall
+  list_read = cond (nat_le 6 c.count) (option_and_then (λ address. (option_and_then (λ allowed. (option_and_then (λ octets. (option_and_then (λ listing. Some (record { call = call_with kind.List address (min allowed 255) 0 0 0 listing; octets = octets; auth = no_place_of; read = no_place_of; write = no_place_of })) (pairs_of (fields_from_of l (c.third.end + 1))))) (octets_for l c.third))) (flag_of_given (text_of l c.second)))) (num_of (text_of l c.first))) None
 
--- ---- the line
+  -- ---- what is read
 
-pub kind_reads : (l : List ℕ) (k j : Kind) (r : ReadCall) → k ≡ j → Reads l (tell_of j (fields_of l)) r → Reads l (tell_of k (fields_of l)) r
-kind_reads l k j r e h = subst (λ (i : Kind). Reads l (tell_of i (fields_of l)) r) (sym e) h
+  module _ (cut : Cut l c) (r : Option ReadCall) where
+    pub clock_reads : r ≡ clock_read → Reads l (tell_clock (fields_of l)) r
+    unfolding tell_clock
+    clock_reads e =
+        subst (λ x. Reads l (tell_clock (fields_of l)) x) (sym e)
+        (Told.reads (nested l (simp (and_assoc, and-true))
+        (step_count l _ _ (ap (λ n. nat_eq n 4) cut.counted)
+        (step_num l cut.first_is _
+        (step_octets l cut.second_is _
+        (step_octets l cut.third_is _
+        (read l (record { call_is = refl; octets_at = place_says l _ _ cut.second_is; auth_at = nowhere l; read_at = nowhere l; write_at = place_says l _ _ cut.third_is }))))))))
+
+    pub bare_reads : (k : Kind) → r ≡ bare_read k → Reads l (tell_bare k (fields_of l)) r
+    unfolding tell_bare
+    bare_reads k e =
+        subst (λ x. Reads l (tell_bare k (fields_of l)) x) (sym e)
+        (Told.reads (nested l (simp and-true)
+        (step_count l _ _ (ap (λ n. nat_eq n 1) cut.counted)
+        (read l (record { call_is = refl; octets_at = nowhere l; auth_at = nowhere l; read_at = nowhere l; write_at = nowhere l })))))
+
+    pub up_reads : r ≡ up_read → Reads l (tell_up (fields_of l)) r
+    unfolding tell_up
+    up_reads e =
+        subst (λ x. Reads l (tell_up (fields_of l)) x) (sym e)
+        (Told.reads (nested l (simp (and_assoc, and-true))
+        (step_count l _ _ (ap (λ n. nat_eq n 6) cut.counted)
+        (step_num l cut.first_is _
+        (step_octets l cut.second_is _
+        (step_octets l cut.third_is _
+        (step_octets l cut.fourth_is _
+        (step_octets l cut.fifth_is _
+        (read l (record { call_is = refl; octets_at = place_says l _ _ cut.fifth_is; auth_at = place_says l _ _ cut.fourth_is; read_at = place_says l _ _ cut.second_is; write_at = place_says l _ _ cut.third_is }))))))))))
+
+    pub down_reads : r ≡ down_read → Reads l (tell_down (fields_of l)) r
+    unfolding tell_down
+    down_reads e =
+        subst (λ x. Reads l (tell_down (fields_of l)) x) (sym e)
+        (Told.reads (nested l (simp (and_assoc, and-true))
+        (step_count l _ _ (ap (λ n. nat_eq n 4) cut.counted)
+        (step_octets l cut.first_is _
+        (step_octets l cut.second_is _
+        (step_octets l cut.third_is _
+        (read l (record { call_is = refl; octets_at = place_says l _ _ cut.third_is; auth_at = nowhere l; read_at = place_says l _ _ cut.first_is; write_at = place_says l _ _ cut.second_is }))))))))
+
+    pub list_reads : r ≡ list_read → Reads l (tell_list (fields_of l)) r
+    unfolding tell_list
+    list_reads e =
+        subst (λ x. Reads l (tell_list (fields_of l)) x) (sym e)
+        (Told.reads (nested l (simp (and_assoc, and-true))
+        (step_count l _ _ (ap (λ n. nat_le 6 n) cut.counted)
+        (step_num l cut.first_is _
+        (step_flag l cut.second_is _
+        (step_octets l cut.third_is _
+        (step_pairs l (drop 4 (fields_of l)) _ _ cut.rest_is
+        (read l (record { call_is = refl; octets_at = place_says l _ _ cut.third_is; auth_at = nowhere l; read_at = nowhere l; write_at = nowhere l })))))))))
+
+-- ---- a line
 
 module _ (l : List ℕ) where
-  call_none : (r : ReadCall) → call_of l ≡ none → r ≡ no_read → Reads l (call_of l) r
-  call_none r e q = subst (λ (o : Option LineCall). Reads l o r) (sym e) (none_reads l r q)
-
-  pub long_reads : (r : ReadCall) → 16384 < length l → r ≡ no_read → Reads l (call_of l) r
+  pub long_reads : (r : Option ReadCall) → 16384 < length l → r ≡ None → Reads l (call_of l) r
   unfolding call_of is_line
-  long_reads r h q = call_none r (simp (lt-leb (length l) 16384 h)) q
+  long_reads r h e = simp (lt-leb (length l) 16384 h, e) tt
 
-  module _ (c : Cuts) (k : Named) (short : length l ≤ 16384) (cut : Cut l c) (e : k ≡ named_for (kind_named_of (text_of l c.name))) where
-    known_as : k ≡ named_for (kind_named_of (field (fields_of l) 0))
-    known_as = e ∙ ap (λ (t : List ℕ). named_for (kind_named_of t)) cut.name_is.text
-
-    called : call_of l ≡ tell_by (kind_named_of (field (fields_of l) 0)) (fields_of l)
+  module _ (c : Cuts) (cut : Cut l c) (short : length l ≤ 16384) where
+    called : call_of l ≡ tell_by (kind_named_of (text_of l c.name)) (fields_of l)
     unfolding call_of is_line
-    called = simp (le-leb (length l) 16384 short)
+    called = simp (le-leb (length l) 16384 short) (ap (λ (t : List ℕ). tell_by (kind_named_of t) (fields_of l)) (sym cut.name_is.text))
 
-    pub other_reads : (r : ReadCall) → k.is_known ≡ false → r ≡ no_read → Reads l (call_of l) r
-    other_reads r f q = call_none r (called ∙ go (kind_named_of (field (fields_of l) 0)) known_as) q
-      where
-        go : (o : Option Kind) → k ≡ named_for o → tell_by o (fields_of l) ≡ none
-        go none h = refl
-        go (some j) h =
-            let t : k.is_known ≡ true = ap (λ (n : Named). n.is_known) h in
-            let z : ◌≡◌ {A = ℕ} 0 1 = cc in
-            absurd (omega arith)
+    pub other_reads : (r : Option ReadCall) → kind_named_of (text_of l c.name) ≡ None → r ≡ None → Reads l (call_of l) r
+    other_reads r h e =
+        subst (λ o. Reads l o r) (sym (called ∙ ap (λ k. tell_by k (fields_of l)) h)) (subst (λ o. Reads l None o) (sym e) tt)
 
-    pub known_reads : (r : ReadCall) → k.is_known ≡ true → Reads l (tell_of k.kind (fields_of l)) r → Reads l (call_of l) r
-    known_reads r f h =
-        subst (λ (o : Option LineCall). Reads l o r) (sym (called ∙ go (kind_named_of (field (fields_of l) 0)) known_as)) h
-      where
-        go : (o : Option Kind) → k ≡ named_for o → tell_by o (fields_of l) ≡ tell_of k.kind (fields_of l)
-        go none h =
-            let t : k.is_known ≡ false = ap (λ (n : Named). n.is_known) h in
-            let z : ◌≡◌ {A = ℕ} 0 1 = cc in
-            absurd (omega arith)
-        go (some j) h = ap (λ (n : Named). tell_of n.kind (fields_of l)) (sym h)
+    pub known_reads : (k : Kind) (r : Option ReadCall) → kind_named_of (text_of l c.name) ≡ Some k → Reads l (tell_of k (fields_of l)) r → Reads l (call_of l) r
+    known_reads k r h s = subst (λ o. Reads l o r) (sym (called ∙ ap (λ k. tell_by k (fields_of l)) h)) s

@@ -1,6 +1,6 @@
 -- Laws that belong to no one function.
+pub mod StepLaws
 pub mod CallLaws
-pub mod KindLaws
-pub mod FrameKindLaws
-pub mod Rows
+pub mod FrameLaws
 pub mod SetupLaws
+pub mod Rows

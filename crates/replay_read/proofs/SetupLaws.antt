@@ -1,58 +1,50 @@
 -- Laws of the set-up lines: what is read of them is what the form says of their fields.
-use mathlib.Core.Path.{◌≡◌, sym, ap, ◌∙◌}
-use mathlib.Core.Bool.{Bool, true, false, ◌&&◌}
-use mathlib.Core.List.{List}
-use Prim.Native.Nat.{ℕ, ◌+◌, ◌≤◌, ◌<◌, min}
-use native.Mathlib.Omega.{arith}
-use lib.Dec.{eqb}
-use lib.ListN.{length, drop}
-use borrow.Author.Tests.{le-leb, lt-leb}
+use Rattle.std.proofs.Common.{◌≡◌, refl, ap, ◌∙◌, List, ℕ, ◌+◌, min, Bool, true, false, ◌&&◌, cond, Option, None, Some, nat_eq, nat_le, length, drop, arith}
+use lib.Dec.{eqb, leb}
+use Rattle.std.specs.Bool.{then_some}
+use Rattle.std.specs.Prelude.{option_and_then}
 use Rattle.questions.specs.declared.settings.Settings.{Settings}
-use Rattle.replay_fields.specs.declared.fields.Field.{Field}
-use Rattle.replay_fields.specs.declared.fields.Num.{Num}
-use Rattle.replay_read.specs.declared.setup.ReadSettings.{ReadSettings}
 use Rattle.replay_read.specs.declared.setup.ReadModem.{ReadModem}
 use Rattle.replay_read.specs.declared.setup.Three.{Three}
 use Rattle.replay_fields.specs.Fields.{fields_of, field, is_line, is_number, number_in}
 use Rattle.replay_fields.specs.Listing.{word_in}
-use Rattle.replay_read.specs.Setup.{three_numbers, is_settings, settings_in, settings_when, settings_of, is_modem, modem_when, modem_of, three_at_of}
+use Rattle.replay_read.specs.Setup.{three_numbers, is_settings, settings_in, settings_of, is_modem, modem_of, three_at_of}
 use Rattle.replay_fields.specs.Places.{text_of, field_at, fields_from_of, after_field, num_of}
 use Rattle.replay_fields.proofs.FieldLaws.{from_start, nth_holds, nth_rest}
 
 module _ (l : List ℕ) where
-  line_is : length l ≤ 16384 → is_line l ≡ true
-  unfolding is_line
-  line_is h = le-leb (length l) 16384 h
-
-  line_not : 16384 < length l → is_line l ≡ false
-  unfolding is_line
-  line_not h = lt-leb (length l) 16384 h
+  -- the place after the three fields from a place on
+  abbrev next_of : ℕ → ℕ
+  next_of at = (after_field l (after_field l (field_at l at))).end + 1
 
   -- ---- a modem
 
-  pub modem_long : (r : ReadModem) → 16384 < length l → r ≡ modem_when false 0 0 → r ≡ modem_of l
-  unfolding modem_of
-  modem_long r h e = simp (line_not h) e
+  -- as the code reads it
+  abbrev pub modem_read : Option ReadModem
+  modem_read =
+      cond (nat_le (length l) 16384 && nat_eq (length (fields_of l)) 2)
+      (option_and_then (λ address. option_and_then (λ said. Some (record { address = address; said = min said 65535 }))
+      (num_of (text_of l (after_field l (field_at l 0)))))
+      (num_of (text_of l (field_at l 0))))
+      None
 
-  pub modem_is : (n : ℕ) (a b : Field) (x y : Num) (s : ℕ) (r : ReadModem) → length l ≤ 16384 → n ≡ length (fields_of l)
-      → a ≡ field_at l 0 → x ≡ num_of (text_of l a) → b ≡ field_at l (a.end + 1) → y ≡ num_of (text_of l b)
-      → s ≡ min y.value 65535
-      → r ≡ modem_when (eqb n 2 && x.fits && y.fits) x.value s
-      → r ≡ modem_of l
-  unfolding modem_of is_modem num_of
-  modem_is n a b x y s r h en ea ex eb ey es er =
+  pub modem_is : (r : Option ReadModem) → r ≡ modem_read → r ≡ modem_of l
+  unfolding modem_of is_line is_modem num_of
+  modem_is r e =
       let fs = fields_of l in
       let first : text_of l (field_at l 0) ≡ field fs 0 = (nth_holds l 0 0 (from_start l)).text in
       let second : text_of l (after_field l (field_at l 0)) ≡ field fs 1 = (nth_holds l 1 _ (nth_rest l 0 0 (from_start l))).text in
-      let x' : x ≡ num_of (field fs 0) = ex ∙ ap (λ (f : Field). num_of (text_of l f)) ea ∙ ap num_of first in
-      let y' : y ≡ num_of (field fs 1) = ey ∙ ap (λ (f : Field). num_of (text_of l f)) (eb ∙ ap (after_field l) ea) ∙ ap num_of second in
-      let line = line_is h in
-      er
-      ∙ ap (λ (k : ℕ). modem_when (eqb n 2 && x.fits && y.fits) x.value k) es
-      ∙ ap (λ (k : ℕ). modem_when (eqb k 2 && x.fits && y.fits) x.value (min y.value 65535)) en
-      ∙ ap (λ (k : Num). modem_when (eqb (length fs) 2 && k.fits && y.fits) k.value (min y.value 65535)) x'
-      ∙ ap (λ (k : Num). modem_when (eqb (length fs) 2 && is_number (field fs 0) && k.fits) (number_in (field fs 0)) (min k.value 65535)) y'
-      ∙ ap (λ (t : Bool). modem_when (t && (eqb (length fs) 2 && is_number (field fs 0) && is_number (field fs 1))) (number_in (field fs 0)) (word_in (field fs 1))) (sym line)
+      e ∙ rw (first, second) (go (leb (length l) 16384) (eqb (length fs) 2) (is_number (field fs 0)) (is_number (field fs 1)))
+    where
+      go : (x y a b : Bool)
+          → cond (x && y) (option_and_then {U = ReadModem} (λ address. option_and_then {U = ReadModem} (λ said. Some (record { address = address; said = min said 65535 }))
+          (then_some b (number_in (field (fields_of l) 1)))) (then_some a (number_in (field (fields_of l) 0)))) None
+          ≡ then_some (x && (y && a && b)) (record { address = number_in (field (fields_of l) 0); said = word_in (field (fields_of l) 1) })
+      go false y a b = refl
+      go true false a b = refl
+      go true true false b = refl
+      go true true true false = refl
+      go true true true true = refl
 
   -- ---- three fields, where all but the first k are left
 
@@ -75,27 +67,21 @@ module _ (l : List ℕ) where
     third_text = (nth_holds l (k + 2) _ third_rest).text
 
     three_is : three_at_of l at
-        ≡ record {
-          fits = three_numbers (fields_of l) k;
+        ≡ then_some (three_numbers (fields_of l) k) (record {
           first = number_in (field (fields_of l) k);
           second = number_in (field (fields_of l) (k + 1));
           third = number_in (field (fields_of l) (k + 2));
-          next = (three_at_of l at).next;
-        }
+          next = next_of at;
+        })
     unfolding three_at_of three_numbers
-    three_is = rw (first_text, second_text, third_text)
+    three_is = rw (first_text, second_text, third_text) refl
 
-    three_rest : fields_from_of l (three_at_of l at).next ≡ drop (k + 3) (fields_of l)
-    unfolding three_at_of
+    three_rest : fields_from_of l (next_of at) ≡ drop (k + 3) (fields_of l)
     three_rest =
         let n : k + 2 + 1 ≡ k + 3 = omega arith in
         nth_rest l (k + 2) ((after_field l (field_at l at)).end + 1) third_rest ∙ ap (λ (i : ℕ). drop i (fields_of l)) n
 
   -- ---- settings
-
-  pub settings_long : (r : ReadSettings) (s : Settings) → 16384 < length l → r ≡ settings_when false s → r ≡ settings_of l
-  unfolding settings_of
-  settings_long r s h e = simp (line_not h) e
 
   abbrev settings_from : Three → Three → Three → Settings
   settings_from a b c =
@@ -105,33 +91,92 @@ module _ (l : List ℕ) where
         waits = record { authorize = b.second; reauthorize = b.third; operational = c.first; rekey = c.second; reject = c.third };
       }
 
-  pub settings_are : (n : ℕ) (a b c : Three) (r : ReadSettings) → length l ≤ 16384 → n ≡ length (fields_of l)
-      → a ≡ three_at_of l 0 → b ≡ three_at_of l a.next → c ≡ three_at_of l b.next
-      → r ≡ settings_when (eqb n 9 && a.fits && b.fits && c.fits) (settings_from a b c)
-      → r ≡ settings_of l
-  unfolding settings_of is_settings settings_in
-  settings_are n a b c r h en ea eb ec er =
+  -- as the code reads them
+  abbrev read_third : Three → Three → Three → Option Settings
+  read_third a b c = Some (settings_from a b c)
+
+  abbrev read_second : Three → Three → Option Settings
+  read_second a b = option_and_then (read_third a b) (three_at_of l b.next)
+
+  abbrev read_first : Three → Option Settings
+  read_first a = option_and_then (read_second a) (three_at_of l a.next)
+
+  abbrev pub settings_read : Option Settings
+  settings_read = cond (nat_le (length l) 16384 && nat_eq (length (fields_of l)) 9) (option_and_then read_first (three_at_of l 0)) None
+
+  -- three fields of the line, and the place after them
+  abbrev three : ℕ → ℕ → Three
+  three k at =
+      record {
+        first = number_in (field (fields_of l) k);
+        second = number_in (field (fields_of l) (k + 1));
+        third = number_in (field (fields_of l) (k + 2));
+        next = next_of at;
+      }
+
+  stepped : {A B : Type 0} (f : A → Option B) (t : Bool) (v : A) → option_and_then f (then_some t v) ≡ cond t (f v) None
+  stepped f true v = refl
+  stepped f false v = refl
+
+  pub settings_are : (r : Option Settings) → r ≡ settings_read → r ≡ settings_of l
+  unfolding settings_of is_line is_settings settings_in
+  settings_are r e =
       let fs = fields_of l in
       let r₁ = three_rest 0 0 (from_start l) in
-      let b' : b ≡ three_at_of l (three_at_of l 0).next = eb ∙ ap (λ (t : Three). three_at_of l t.next) ea in
-      let r₂ = three_rest 3 (three_at_of l 0).next r₁ in
-      let c' : c ≡ three_at_of l (three_at_of l (three_at_of l 0).next).next = ec ∙ ap (λ (t : Three). three_at_of l t.next) b' in
-      let a'' = ea ∙ three_is 0 0 (from_start l) in
-      let b'' = b' ∙ three_is 3 _ r₁ in
-      let c'' = c' ∙ three_is 6 _ r₂ in
-      er
-      ∙ ap (λ (k : ℕ). settings_when (eqb k 9 && a.fits && b.fits && c.fits) (settings_from a b c)) en
-      ∙ ap (λ (t : Three). settings_when (eqb (length fs) 9 && t.fits && b.fits && c.fits) (settings_from t b c)) a''
-      ∙ ap (λ (t : Three). settings_when (eqb (length fs) 9 && three_numbers fs 0 && t.fits && c.fits) (settings_from (record { fits = three_numbers fs 0; first = number_in (field fs 0); second = number_in (field fs 1); third = number_in (field fs 2); next = 0 }) t c)) b''
-      ∙ ap (λ (t : Three). settings_when (eqb (length fs) 9 && three_numbers fs 0 && three_numbers fs 3 && t.fits) (settings_from (record { fits = three_numbers fs 0; first = number_in (field fs 0); second = number_in (field fs 1); third = number_in (field fs 2); next = 0 }) (record { fits = three_numbers fs 3; first = number_in (field fs 3); second = number_in (field fs 4); third = number_in (field fs 5); next = 0 }) t)) c''
-      ∙ ap (λ (t : Bool). settings_when (t && (eqb (length fs) 9 && three_numbers fs 0 && three_numbers fs 3 && three_numbers fs 6)) (settings_in fs)) (sym (line_is h))
+      let r₂ = three_rest 3 (next_of 0) r₁ in
+      let a₀ = three 0 0 in
+      let b₀ = three 3 (next_of 0) in
+      let c₀ = three 6 (next_of (next_of 0)) in
+      let c₃ : option_and_then (read_third a₀ b₀) (three_at_of l b₀.next) ≡ cond (three_numbers fs 6) (Some (settings_from a₀ b₀ c₀)) None =
+      ap (option_and_then (read_third a₀ b₀)) (three_is 6 (next_of (next_of 0)) r₂) ∙ stepped (read_third a₀ b₀) (three_numbers fs 6) c₀ in
+      let c₂ : option_and_then (read_second a₀) (three_at_of l a₀.next) ≡ cond (three_numbers fs 3) (cond (three_numbers fs 6) (Some (settings_from a₀ b₀ c₀)) None) None =
+      ap (option_and_then (read_second a₀)) (three_is 3 (next_of 0) r₁)
+      ∙ stepped (read_second a₀) (three_numbers fs 3) b₀
+      ∙ ap (λ (o : Option Settings). cond (three_numbers fs 3) o None) c₃ in
+      let c₁ : option_and_then read_first (three_at_of l 0) ≡ cond (three_numbers fs 0) (cond (three_numbers fs 3) (cond (three_numbers fs 6) (Some (settings_from a₀ b₀ c₀)) None) None) None =
+      ap (option_and_then read_first) (three_is 0 0 (from_start l))
+      ∙ stepped read_first (three_numbers fs 0) a₀
+      ∙ ap (λ (o : Option Settings). cond (three_numbers fs 0) o None) c₂ in
+      e
+      ∙ ap (λ (o : Option Settings). cond (leb (length l) 16384 && eqb (length fs) 9) o None) c₁
+      ∙ go (leb (length l) 16384) (eqb (length fs) 9) (three_numbers fs 0) (three_numbers fs 3) (three_numbers fs 6) (settings_from (three 0 0) (three 3 (next_of 0)) (three 6 (next_of (next_of 0))))
+    where
+      go : (x y p q r : Bool) (s : Settings) → cond (x && y) (cond p (cond q (cond r (Some s) None) None) None) None ≡ then_some (x && (y && p && q && r)) s
+      go false y p q r s = refl
+      go true false p q r s = refl
+      go true true false q r s = refl
+      go true true true false r s = refl
+      go true true true true false s = refl
+      go true true true true true s = refl
 
 -- ---- three numbers of a line
-pub three_read : (l : List ℕ) (at : ℕ) (a b c : Field) (n m k : Num) → a ≡ field_at l at → n ≡ num_of (text_of l a) → b ≡ field_at l (a.end + 1) → m ≡ num_of (text_of l b)
-    → c ≡ field_at l (b.end + 1) → k ≡ num_of (text_of l c)
-    → ◌≡◌ {A = Three} (record { fits = n.fits && m.fits && k.fits; first = n.value; second = m.value; third = k.value; next = c.end + 1 }) (three_at_of l at)
+
+-- as the code reads them
+abbrev pub three_read : List ℕ → ℕ → Option Three
+three_read l at =
+    option_and_then (λ first.
+    option_and_then (λ second.
+    option_and_then (λ third. Some (record { first = first; second = second; third = third; next = (after_field l (after_field l (field_at l at))).end + 1 }))
+    (num_of (text_of l (after_field l (after_field l (field_at l at))))))
+    (num_of (text_of l (after_field l (field_at l at)))))
+    (num_of (text_of l (field_at l at)))
+
+pub three_are : (l : List ℕ) (at : ℕ) (r : Option Three) → r ≡ three_read l at → r ≡ three_at_of l at
 unfolding three_at_of num_of
-three_read l at a b c n m k ea en eb em ec ek =
-    let b' : b ≡ after_field l (field_at l at) = eb ∙ ap (after_field l) ea in
-    let c' : c ≡ after_field l (after_field l (field_at l at)) = ec ∙ ap (after_field l) b' in
-    rw (en, em, ek, ea, b', c')
+three_are l at r e = e ∙ go (is_number (text_of l (field_at l at))) (is_number (text_of l (after_field l (field_at l at)))) (is_number (text_of l (after_field l (after_field l (field_at l at)))))
+  where
+    go : (x y z : Bool)
+        → option_and_then {U = Three} (λ first. option_and_then {U = Three} (λ second. option_and_then {U = Three} (λ third. Some (record { first = first; second = second; third = third; next = (after_field l (after_field l (field_at l at))).end + 1 }))
+        (then_some z (number_in (text_of l (after_field l (after_field l (field_at l at)))))))
+        (then_some y (number_in (text_of l (after_field l (field_at l at))))))
+        (then_some x (number_in (text_of l (field_at l at))))
+        ≡ then_some (x && y && z) (record {
+          first = number_in (text_of l (field_at l at));
+          second = number_in (text_of l (after_field l (field_at l at)));
+          third = number_in (text_of l (after_field l (after_field l (field_at l at))));
+          next = (after_field l (after_field l (field_at l at))).end + 1;
+        })
+    go false y z = refl
+    go true false z = refl
+    go true true false = refl
+    go true true true = refl

@@ -1,8 +1,7 @@
 -- What the set-up lines say: the names, the settings, and a modem.
-use Rattle.std.specs.Prelude.{Bool, true, false, ◌&&◌, List, [], ◌∷◌, ℕ, ◌+◌, eqb, length}
+use Rattle.std.specs.Prelude.{Option, Bool, ◌&&◌, List, [], ◌∷◌, ℕ, ◌+◌, eqb, length}
+use Rattle.std.specs.Bool.{then_some}
 use Rattle.questions.specs.declared.settings.Settings.{Settings}
-use Rattle.questions.specs.Settings.{no_settings_of}
-use Rattle.replay_read.specs.declared.setup.ReadSettings.{ReadSettings}
 use Rattle.replay_read.specs.declared.setup.ReadModem.{ReadModem}
 use Rattle.replay_read.specs.declared.setup.Three.{Three}
 use Rattle.text.specs.Same.{same_octets_of}
@@ -57,39 +56,31 @@ settings_in fs =
           };
     }
 
-abbrev pub settings_when : Bool → Settings → ReadSettings
-settings_when true s = record { is_form = true; settings = s }
-settings_when false s = record { is_form = false; settings = no_settings_of }
-
--- What a line of settings says; zeros where it is none
-unfoldable pub settings_of : List ℕ → ReadSettings
-settings_of l = settings_when (is_line l && is_settings (fields_of l)) (settings_in (fields_of l))
+-- What a line of settings says, if it is one
+unfoldable pub settings_of : List ℕ → Option Settings
+settings_of l = then_some (is_line l && is_settings (fields_of l)) (settings_in (fields_of l))
 
 -- Two fields, each a number
 unfoldable pub is_modem : List (List ℕ) → Bool
 is_modem fs = eqb (length fs) 2 && is_number (field fs 0) && is_number (field fs 1)
 
-abbrev pub modem_when : Bool → ℕ → ℕ → ReadModem
-modem_when true address said = record { is_form = true; address = address; said = said }
-modem_when false address said = record { is_form = false; address = 0; said = 0 }
-
--- What the line of a modem says; zeros where it is none. A SAID above 65,535 is taken as 65,535
-unfoldable pub modem_of : List ℕ → ReadModem
+-- What the line of a modem says, if it is one. A SAID above 65,535 is taken as 65,535
+unfoldable pub modem_of : List ℕ → Option ReadModem
 modem_of l =
-    modem_when
+    then_some
     (is_line l && is_modem (fields_of l))
-    (number_in (field (fields_of l) 0))
-    (word_in (field (fields_of l) 1))
+    (record { address = number_in (field (fields_of l) 0); said = word_in (field (fields_of l) 1) })
 
 -- As the code reads them: three numbers, and the place after them
-unfoldable pub three_at_of : List ℕ → ℕ → Three
+unfoldable pub three_at_of : List ℕ → ℕ → Option Three
 three_at_of l at =
-    record {
-      fits = is_number (text_of l (field_at l at))
-          && is_number (text_of l (after_field l (field_at l at)))
-          && is_number (text_of l (after_field l (after_field l (field_at l at))));
+    then_some
+    (is_number (text_of l (field_at l at))
+    && is_number (text_of l (after_field l (field_at l at)))
+    && is_number (text_of l (after_field l (after_field l (field_at l at)))))
+    (record {
       first = number_in (text_of l (field_at l at));
       second = number_in (text_of l (after_field l (field_at l at)));
       third = number_in (text_of l (after_field l (after_field l (field_at l at))));
       next = (after_field l (after_field l (field_at l at))).end + 1;
-    }
+    })

@@ -43,15 +43,13 @@ pub struct Call {
 pub fn plain_call(kind: Kind, address: u64, word: u8, second: u64, said: u16, number: u8) -> Call
     ensures { result ≡ plain kind address word second said number }
 {
-    let listing = no_listing();
-    let tek = TekNumber(number);
     Call {
-        kind: kind,
-        address: address,
-        word: word,
-        second: second,
-        said: said,
-        number: tek,
-        listing: listing,
+        kind,
+        address,
+        word,
+        second,
+        said,
+        number: TekNumber(number),
+        listing: no_listing(),
     }
 }

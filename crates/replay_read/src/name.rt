@@ -1,97 +1,75 @@
 // The name of a call, the first field of its line.
 ghost use Rattle.std.specs.Prelude.{◌≡◌};
-ghost use Rattle.std.proofs.Math.Option.{some};
 ghost use Rattle.replay_read.specs.Call.{kind_named_of, carried_named_of, frame_named_of, octets_named_of};
-ghost use Rattle.replay_read.specs.CallPlaces.{named_for};
 
 use crate::calls::Kind;
-use replay_fields::fields::same;
 
-// Whether a name is one of the fourteen, and which.
-#[derive(Clone, Copy)]
-pub struct Named {
-    pub is_known: bool,
-    pub kind: Kind,
-}
-
-fn known(kind: Kind) -> Named
-    ensures { result ≡ named_for (some kind) }
-{
-    Named {
-        is_known: true,
-        kind: kind,
-    }
-}
+// An if for each name: a match on the names was tried, and left 49 goals open for four of them.
 
 // Which call on a frame's octets a name is of.
-fn octets_named(name: &[u8]) -> Named
-    ensures { result ≡ named_for (octets_named_of name.now) }
+#[tactic(auto, unfolding(crate::specs::Call::octets_named_of, text::specs::Same::same_octets_of))]
+fn octets_named(name: &[u8]) -> Option<Kind>
+    ensures { result ≡ octets_named_of name.now }
 {
-    if same(name, b"sealdownframe") {
-        return known(Kind::SealDownFrame);
-    }
-    if same(name, b"sealupframe") {
-        return known(Kind::SealUpFrame);
-    }
-    if same(name, b"openupframe") {
-        return known(Kind::OpenUpFrame);
-    }
-    if same(name, b"opendownframe") {
-        return known(Kind::OpenDownFrame);
-    }
-    Named {
-        is_known: false,
-        kind: Kind::Established,
+    if name == b"sealdownframe".as_slice() {
+        Some(Kind::SealDownFrame)
+    } else if name == b"sealupframe".as_slice() {
+        Some(Kind::SealUpFrame)
+    } else if name == b"openupframe".as_slice() {
+        Some(Kind::OpenUpFrame)
+    } else if name == b"opendownframe".as_slice() {
+        Some(Kind::OpenDownFrame)
+    } else {
+        None
     }
 }
 
 // Which call of a frame a name is of: a sealing or an opening.
-fn frame_named(name: &[u8]) -> Named
-    ensures { result ≡ named_for (frame_named_of name.now) }
+#[tactic(auto, unfolding(crate::specs::Call::frame_named_of, text::specs::Same::same_octets_of))]
+fn frame_named(name: &[u8]) -> Option<Kind>
+    ensures { result ≡ frame_named_of name.now }
 {
-    if same(name, b"sealdown") {
-        return known(Kind::SealDown);
+    if name == b"sealdown".as_slice() {
+        Some(Kind::SealDown)
+    } else if name == b"sealup".as_slice() {
+        Some(Kind::SealUp)
+    } else if name == b"openup".as_slice() {
+        Some(Kind::OpenUp)
+    } else if name == b"opendown".as_slice() {
+        Some(Kind::OpenDown)
+    } else {
+        octets_named(name)
     }
-    if same(name, b"sealup") {
-        return known(Kind::SealUp);
-    }
-    if same(name, b"openup") {
-        return known(Kind::OpenUp);
-    }
-    if same(name, b"opendown") {
-        return known(Kind::OpenDown);
-    }
-    octets_named(name)
 }
 
 // Which call of a message or of a frame a name is of.
-fn carried_named(name: &[u8]) -> Named
-    ensures { result ≡ named_for (carried_named_of name.now) }
+#[tactic(auto, unfolding(crate::specs::Call::carried_named_of, text::specs::Same::same_octets_of))]
+fn carried_named(name: &[u8]) -> Option<Kind>
+    ensures { result ≡ carried_named_of name.now }
 {
-    if same(name, b"up") {
-        return known(Kind::Up);
+    if name == b"up".as_slice() {
+        Some(Kind::Up)
+    } else if name == b"down".as_slice() {
+        Some(Kind::Down)
+    } else {
+        frame_named(name)
     }
-    if same(name, b"down") {
-        return known(Kind::Down);
-    }
-    frame_named(name)
 }
 
 // Which call a name is of.
-pub fn kind_named(name: &[u8]) -> Named
-    ensures { result ≡ named_for (kind_named_of name.now) }
+#[tactic(auto, unfolding(crate::specs::Call::kind_named_of, text::specs::Same::same_octets_of))]
+pub fn kind_named(name: &[u8]) -> Option<Kind>
+    ensures { result ≡ kind_named_of name.now }
 {
-    if same(name, b"list") {
-        return known(Kind::List);
+    if name == b"list".as_slice() {
+        Some(Kind::List)
+    } else if name == b"clock".as_slice() {
+        Some(Kind::Clock)
+    } else if name == b"established".as_slice() {
+        Some(Kind::Established)
+    } else if name == b"reauth".as_slice() {
+        Some(Kind::Reauth)
+    } else {
+        carried_named(name)
     }
-    if same(name, b"clock") {
-        return known(Kind::Clock);
-    }
-    if same(name, b"established") {
-        return known(Kind::Established);
-    }
-    if same(name, b"reauth") {
-        return known(Kind::Reauth);
-    }
-    carried_named(name)
 }

@@ -3,5 +3,6 @@
 #![tactic(auto)]
 
 fn main(rt: HostRuntime) {
-    schedule_io::run(rt.stdin(), &rt.stdout());
+    // That writing fails is not looked at.
+    let _ = schedule_io::run(rt.stdin(), &rt.stdout());
 }

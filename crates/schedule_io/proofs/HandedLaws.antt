@@ -1,17 +1,14 @@
 -- What `print` keeps from slice to slice: the cursor is steady, and the octets handed on and those of the rows left are all there are.
-use Prim.Native.Nat.{ℕ, zero, suc, ◌+◌, ◌≤◌}
-use mathlib.Core.Path.{◌≡◌, refl, sym, ap, ◌∙◌}
-use mathlib.Core.Bool.{Bool, true, false, ◌&&◌}
+use Prim.Native.Nat.{ℕ, ◌+◌, ◌≤◌, ◌<◌}
+use mathlib.Core.Path.{◌≡◌, sym, ap, ◌∙◌}
 use mathlib.Core.List.{List}
 use native.Mathlib.Omega.{arith}
-use lib.Dec.{leb}
 use lib.ListN.{length, length-append}
-use borrow.Author.Tests.{leb-true, le-leb}
-use Rattle.questions.proofs.TestLaws.{both}
 use Rattle.schedule_table.specs.declared.print.Cursor.{Cursor}
+use Rattle.schedule_table.specs.declared.print.Printed.{Printed}
 use Rattle.schedule_table.specs.Schedule.{output_of}
-use Rattle.schedule_table.specs.Print.{Steady, start_of, fill_of, rest_of}
-use Rattle.schedule_table.proofs.PrintLaws.{after_start, start_steady, after_fill, fill_steady, rest_most, none_left}
+use Rattle.schedule_table.specs.Print.{Steady, printed_of, start_of, fill_of, rest_of}
+use Rattle.schedule_table.proofs.PrintLaws.{after_start, start_steady, after_fill, fill_steady, rest_most, none_left, fill_lowers}
 
 pub record Handed (text : List ℕ) (cursor : Cursor) (octets : ℕ) : Type 0 where
   pub steady : Steady cursor
@@ -28,26 +25,27 @@ first s cursor count same long few =
       short = omega (arith, all, long, few, rest_most (start_of s).cursor (start_steady s));
     }
 
-module _ (text : List ℕ) (c next : Cursor) (octets count : ℕ) (h : Handed text c octets)
-    (same : next ≡ (fill_of 4096 c).cursor) (long : count ≡ length (fill_of 4096 c).written) where
-  pub more : count + length (rest_of next) ≡ length (rest_of c)
+module _ (text : List ℕ) (c : Cursor) (octets room : ℕ) (wide : room ≡ 4096) (p : Printed) (h : Handed text c octets) (is : p ≡ printed_of (fill_of room c)) where
+  part : p ≡ printed_of (fill_of 4096 c)
+  part = is ∙ ap (λ (n : ℕ). printed_of (fill_of n c)) wide
+
+  same : p.cursor ≡ (fill_of 4096 c).cursor
+  same = ap (λ (q : Printed). q.cursor) part
+
+  more : p.count + length (rest_of p.cursor) ≡ length (rest_of c)
   more =
       let all = sym (length-append (fill_of 4096 c).written (rest_of (fill_of 4096 c).cursor)) ∙ ap length (after_fill 4096 c h.steady) in
-      omega (arith, all, ap (λ (k : Cursor). length (rest_of k)) same, long)
+      omega (arith, all, ap (λ (k : Cursor). length (rest_of k)) same, ap (λ (q : Printed). q.count) part)
 
-  pub handed : Handed text next (octets + count)
+  pub most : octets + p.count ≤ length text
+  most = omega (arith, more, h.counted)
+
+  pub handed : Handed text p.cursor (octets + p.count)
   handed = record { steady = rw same (fill_steady 4096 c h.steady); counted = omega (arith, more, h.counted); short = h.short }
 
--- where every slice went out, none is left
-pub last : (text : List ℕ) (c : Cursor) (octets : ℕ) (written : Bool) → Handed text c octets → (written && leb 1 c.left) ≡ false
-    → written ≡ true → octets ≡ length text
-last text c octets written h over out =
-    let over-left : (true && leb 1 c.left) ≡ false = rw out at over in
-    omega (arith, h.counted, ap length (none_left c (none c.left over-left)))
-  where
-    none : (n : ℕ) → leb 1 n ≡ false → n ≡ 0
-    none zero e = refl
-    none (suc n) e = let some : leb 1 (suc n) ≡ true = le-leb 1 (suc n) (omega arith) in let z : ◌≡◌ {A = ℕ} 0 1 = cc in absurd (omega arith)
+  pub fewer : 1 ≤ c.left → p.cursor.left < c.left
+  fewer some = rw same (fill_lowers 4096 c h.steady (omega arith) some)
 
-pub left_some : {n : ℕ} (c : Cursor) (written : Bool) → (written && leb n c.left) ≡ true → n ≤ c.left
-left_some {n} c written taken = leb-true n c.left (both written (leb n c.left) taken).1
+-- where no clock call is left, they are all
+pub last : (text : List ℕ) (c : Cursor) (octets : ℕ) → Handed text c octets → c.left < 1 → octets ≡ length text
+last text c octets h none = omega (arith, h.counted, ap length (none_left c (omega arith)))

@@ -22,8 +22,7 @@ use Rattle.key_association.specs.Record.{Rollable}
 use Rattle.key_association.specs.Listing.{fresh_of}
 use Rattle.key_association.proofs.RollLaws.{roll_one, number_after}
 use Rattle.schedule_table.specs.declared.input.Asked.{Asked}
-use Rattle.schedule_table.specs.declared.input.Input.{Input}
-use Rattle.schedule_table.specs.declared.input.Input.TheVariants.{Table}
+use Rattle.std.specs.Prelude.{Option, Some}
 use Rattle.schedule_table.specs.declared.print.Cursor.{Cursor}
 use Rattle.schedule_table.specs.declared.print.Printed.{Printed}
 use Rattle.schedule_table.specs.Schedule.{zeros, half_life, header, asked_fits_of, input_of}
@@ -228,7 +227,7 @@ module _ (lent : List ℕ) (c₀ : Cursor) (out : List ℕ) (c : Cursor) (at : �
       ∙ sets_front lent (fill_of (length lent) c₀).written (omega (arith, filled_count, f.inside))
 
 -- ---- what `start` answers
-pub start_is : (s : List ℕ) (i : Input) → input_of s ≡ i → start_for i ≡ start_of s
+pub start_is : (s : List ℕ) (i : Option Asked) → input_of s ≡ i → start_for i ≡ start_of s
 unfolding start_of
 start_is s i e = ap start_for (sym e)
 
@@ -242,14 +241,14 @@ cursor_steady a r fits e = subst Steady (sym e) (first_steady a fits)
 -- the header and two rows
 pub started : (a : Asked) (c : Cursor) {d d₁ d₂ d₃ : List ℕ} {p q r : ℕ} → c ≡ cursor_of a → Put d 0 header p d₁
     → Put d₁ p (key_row 0 a.from c.held.older) q d₂ → Put d₂ q (key_row 1 a.from c.held.newer) r d₃ → r ≤ length d
-    → (record { count = r; cursor = c } ≡ printed_of (start_for (Table a))) × ((d₃ ≡ overlay d (start_for (Table a)).written) × (r ≤ length d))
+    → (record { count = r; cursor = c } ≡ printed_of (start_for (Some a))) × ((d₃ ≡ overlay d (start_for (Some a)).written) × (r ≤ length d))
 started a c {d} {d₁} {d₂} {d₃} {p} {q} {r} e put₁ put₂ put₃ fits =
-    let whole : Put d 0 (start_for (Table a)).written r d₃
+    let whole : Put d 0 (start_for (Some a)).written r d₃
     = put_as
     (ap (λ (k : Cursor). header ++ key_row 0 a.from k.held.older ++ key_row 1 a.from k.held.newer) e)
     (then_put (then_put put₁ put₂) put₃) in
-    let count : r ≡ length (start_for (Table a)).written = omega (arith, whole.after) in
-    (answer count, (whole.stored ∙ sets_front d (start_for (Table a)).written (omega (arith, count)), fits))
+    let count : r ≡ length (start_for (Some a)).written = omega (arith, whole.after) in
+    (answer count, (whole.stored ∙ sets_front d (start_for (Some a)).written (omega (arith, count)), fits))
   where
-    answer : r ≡ length (start_for (Table a)).written → ◌≡◌ {A = Printed} (record { count = r; cursor = c }) (printed_of (start_for (Table a)))
+    answer : r ≡ length (start_for (Some a)).written → ◌≡◌ {A = Printed} (record { count = r; cursor = c }) (printed_of (start_for (Some a)))
     answer k = cc

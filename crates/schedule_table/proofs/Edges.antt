@@ -4,7 +4,7 @@ use mathlib.Core.List.{List, [], ◌∷◌, ◌++◌}
 use Prim.Native.Nat.{ℕ}
 use Rattle.questions.specs.Settings.{life_fits_of}
 use Rattle.text.specs.Decimal.{is_digit_of, leading, value_from, value_of, fitting, number_of, number_at, decimal_with, decimal_of}
-use Rattle.schedule_table.specs.declared.input.Input.TheVariants.{Table}
+use Rattle.std.specs.Prelude.{Some}
 use Rattle.text.specs.Same.{same_octets_of}
 use Rattle.schedule_table.specs.Schedule.{names, ends_at, field_at, in_form, asked_fits_of, input_of, every_half_of, row_octets, rows_of, header, table_of, output_of}
 
@@ -12,7 +12,7 @@ use Rattle.schedule_table.specs.Schedule.{names, ends_at, field_at, in_form, ask
 abbrev values : List ℕ
 values = 49 ∷ 56 ∷ 48 ∷ 48 ∷ 44 ∷ 48 ∷ 44 ∷ 49 ∷ 56 ∷ 48 ∷ 48 ∷ []
 
-asked : input_of (names ++ values) ≡ Table (record { life = 1800; from = 0; until = 1800 })
+asked : input_of (names ++ values) ≡ Some (record { life = 1800; from = 0; until = 1800 })
 unfolding input_of in_form same_octets_of field_at ends_at asked_fits_of life_fits_of number_at number_of fitting leading is_digit_of value_of value_from
 asked = refl
 

@@ -1,47 +1,42 @@
 -- Laws of what is read: what each test decides, and that an accepted input has at most 79 octets.
 use mathlib.Core.Path.{◌≡◌, refl, sym, ap, ◌∙◌}
-use mathlib.Core.Bool.{Bool, true, false, cond, ◌&&◌, and-false, and-true, or-false}
+use mathlib.Core.Bool.{Bool, true, false, cond, ◌&&◌, or-false}
 use mathlib.Core.List.{List, [], ◌∷◌}
 use mathlib.Core.Logic.{⊎_elim}
 use Prim.Native.Nat.{ℕ, ◌+◌, ◌-◌, ◌≤◌, ◌<◌}
-use native.Mathlib.Numerals.{add-one}
 use native.Mathlib.Omega.{arith}
 use lib.Dec.{leb, ltb, eqb}
-use lib.ListN.{length, get_or, take, drop, drop_of_length-le, get_or-eq_default}
-use lib.Seq.{drop-cons, take_all, length-take-le}
+use lib.ListN.{length, get_or, take, drop, get_or-eq_default}
+use lib.Seq.{take_all, length-take-le}
 use borrow.Author.Tests.{eq-eqb, ne_eqb, eqb-true, eqb-false, leb-true}
 use Rattle.questions.proofs.ListLaws.{IfLt, if_lt}
 use Rattle.questions.proofs.TestLaws.{both, either}
+use Rattle.std.specs.Prelude.{is_some, unwrap_or, option_and_then}
+use Rattle.std.specs.Bool.{then_some}
+use Rattle.schedule_table.specs.declared.input.Field.{Field}
 use Rattle.text.specs.declared.decimal.Number.{Number}
 use Rattle.text.specs.Decimal.{number_at, number_of, number_when, fitting, leading, value_of, limit}
 use Rattle.schedule_table.specs.declared.input.Asked.{Asked}
-use Rattle.schedule_table.specs.declared.input.Input.TheVariants.{Table, Refused}
+use Rattle.std.specs.Prelude.{Option, None, Some}
 use Rattle.text.specs.Same.{same_octets_of}
-use Rattle.schedule_table.specs.Schedule.{names, ends_at, field_at, from_place, until_place, in_form, asked_fits_of, values_of, input_of}
+use Rattle.schedule_table.specs.Schedule.{names, ends_at, field_at, from_place, until_place, in_form, asked_fits_of, values_of, input_of, field_in, last_in}
 
--- ---- the line of names, octet by octet
-same_short : (xs ys : List ℕ) → length xs < length ys → same_octets_of xs ys ≡ false
+-- ---- the line of names
+
+pub same_turned : (xs ys : List ℕ) → same_octets_of xs ys ≡ same_octets_of ys xs
 unfolding same_octets_of
-same_short xs [] h = absurd (omega arith)
-same_short [] (y ∷ ys) h = refl
-same_short (x ∷ xs) (y ∷ ys) h = rw (same_short xs ys (omega arith)) (and-false (eqb x y))
-
-pub starts_short : (s line : List ℕ) → length s < length line → false ≡ same_octets_of (take (length line) s) line
-starts_short s line h = sym (rw (take_all (length line) s (omega arith)) (same_short s line h))
-
-module _ (xs ys : List ℕ) (i : ℕ) where
-  pub same_end : length xs ≤ i → length ys ≤ i → same_octets_of (drop i xs) (drop i ys) ≡ true
-  unfolding same_octets_of
-  same_end h k = rw (drop_of_length-le xs h, drop_of_length-le ys k)
-
-  module _ (inside : i < length xs) (within : i < length ys) where
-    pub same_here : get_or xs i 0 ≡ get_or ys i 0 → same_octets_of (drop i xs) (drop i ys) ≡ same_octets_of (drop (i + 1) xs) (drop (i + 1) ys)
-    unfolding same_octets_of
-    same_here e = rw (drop-cons xs i 0 inside, drop-cons ys i 0 within, add-one i, eq-eqb (get_or xs i 0) (get_or ys i 0) e)
-
-    pub same_not : (get_or xs i 0 ≡ get_or ys i 0 → ⊥) → same_octets_of (drop i xs) (drop i ys) ≡ false
-    unfolding same_octets_of
-    same_not e = rw (drop-cons xs i 0 inside, drop-cons ys i 0 within, ne_eqb (get_or xs i 0) (get_or ys i 0) e)
+same_turned [] [] = refl
+same_turned [] (y ∷ ys) = refl
+same_turned (x ∷ xs) [] = refl
+same_turned (x ∷ xs) (y ∷ ys) =
+    ap (λ (t : Bool). t && same_octets_of xs ys) (turned x y) ∙ ap (λ (t : Bool). eqb y x && t) (same_turned xs ys)
+  where
+    turned : (x y : ℕ) → eqb x y ≡ eqb y x
+    turned x y = go (eqb x y) refl
+      where
+        go : (t : Bool) → eqb x y ≡ t → t ≡ eqb y x
+        go true e = sym (eq-eqb y x (omega (arith, eqb-true x y e)))
+        go false e = sym (ne_eqb y x (λ q. eqb-false x y e (omega (arith, q))))
 
 -- ---- a comma, and the end of the input
 pub comma_past : (s : List ℕ) (at : ℕ) → length s ≤ at → (false ≡ eqb (get_or s at 0) 44) × (false ≡ true → at < length s)
@@ -69,86 +64,93 @@ module _ (s : List ℕ) (at : ℕ) where
 
 -- ---- the form
 module _ (s : List ℕ) where
-  pub not_in_form : in_form s ≡ false → Refused ≡ input_of s
+  pub not_in_form : in_form s ≡ false → None ≡ input_of s
   unfolding input_of
   not_in_form e = simp e
 
-  pub other_names : same_octets_of (take 16 s) names ≡ false → Refused ≡ input_of s
-  unfolding in_form
-  other_names e = not_in_form (simp e)
+  stepped : {A B : Type 0} (f : A → Option B) (t : Bool) (v : A) → option_and_then f (then_some t v) ≡ cond t (f v) None
+  stepped f true v = refl
+  stepped f false v = refl
 
-  pub other_life : field_at s 16 ≡ false → Refused ≡ input_of s
-  unfolding in_form
-  other_life e = not_in_form (simp (e, and-false))
+  -- as the code reads it
+  abbrev ask : Field → Field → ℕ → Option Asked
+  ask life from until =
+      let a : Asked = record { life = life.value; from = from.value; until = until } in
+      then_some (asked_fits_of a) a
 
-  pub other_from : field_at s (from_place s) ≡ false → Refused ≡ input_of s
-  unfolding in_form
-  other_from e = not_in_form (simp (e, and-false))
+  abbrev read_last : Field → Field → Option Asked
+  read_last life from = option_and_then (ask life from) (last_in s from.next)
 
-  pub other_until : ((number_at s (until_place s)).fits && ends_at s (number_at s (until_place s)).next) ≡ false → Refused ≡ input_of s
-  unfolding in_form
-  other_until e =
-      not_in_form
-      (split
-      (number_at s (until_place s)).fits
-      (ends_at s (number_at s (until_place s)).next)
-      (same_octets_of (take 16 s) names && field_at s 16 && field_at s (from_place s))
-      e)
+  abbrev read_from : Field → Option Asked
+  read_from life = option_and_then (read_last life) (field_in s life.next)
+
+  abbrev pub read_life : Option Asked
+  read_life = cond (same_octets_of (take 16 s) names) (option_and_then read_from (field_in s 16)) None
+
+  field_of : ℕ → Field
+  field_of at = record { value = unwrap_or (number_at s at).value 0; next = (number_at s at).next + 1 }
+
+  pub read_is : (r : Option Asked) → r ≡ read_life → r ≡ input_of s
+  unfolding input_of in_form field_in last_in field_of
+  read_is r e =
+      let l = field_of 16 in
+      let f = field_of (from_place s) in
+      let u = number_at s (until_place s) in
+      let a = values_of s in
+      let c₃ : read_last l f ≡ cond (is_some u.value && ends_at s u.next) (then_some (asked_fits_of a) a) None =
+      stepped (ask l f) (is_some u.value && ends_at s u.next) (unwrap_or u.value 0) in
+      let c₂ : read_from l ≡ cond (field_at s (from_place s)) (cond (is_some u.value && ends_at s u.next) (then_some (asked_fits_of a) a) None) None =
+      stepped (read_last l) (field_at s (from_place s)) f ∙ ap (λ (o : Option Asked). cond (field_at s (from_place s)) o None) c₃ in
+      let c₁ : option_and_then read_from (field_in s 16) ≡ cond (field_at s 16) (cond (field_at s (from_place s)) (cond (is_some u.value && ends_at s u.next) (then_some (asked_fits_of a) a) None) None) None =
+      stepped read_from (field_at s 16) l ∙ ap (λ (o : Option Asked). cond (field_at s 16) o None) c₂ in
+      e
+      ∙ ap (λ (o : Option Asked). cond (same_octets_of (take 16 s) names) o None) c₁
+      ∙ go (same_octets_of (take 16 s) names) (field_at s 16) (field_at s (from_place s)) (is_some u.value) (ends_at s u.next) (asked_fits_of a) a
     where
-      split : (a b c : Bool) → (a && b) ≡ false → (c && a && b) ≡ false
-      split true b c e = rw (and-true, e, and-false)
-      split false b c e = rw and-false
+      go : (n f g u v t : Bool) (a : Asked) → cond n (cond f (cond g (cond (u && v) (then_some t a) None) None) None) None ≡ then_some (n && f && g && u && v && t) a
+      go false f g u v t a = refl
+      go true false g u v t a = refl
+      go true true false u v t a = refl
+      go true true true false v t a = refl
+      go true true true true false t a = refl
+      go true true true true true t a = refl
 
-  pub no_fit : asked_fits_of (values_of s) ≡ false → Refused ≡ input_of s
-  unfolding input_of
-  no_fit e = simp (e, and-false)
+-- ---- what the tests of its parts decide
 
-  pub accepted : in_form s ≡ true → asked_fits_of (values_of s) ≡ true → Table (values_of s) ≡ input_of s
-  unfolding input_of
-  accepted f e = simp (f, e)
+pub field_there : (s : List ℕ) (at v : ℕ) (n : Number) (k : Bool) → n ≡ number_at s at → n.value ≡ Some v → k ≡ eqb (get_or s n.next 0) 44
+    → then_some k (record { value = v; next = n.next + 1 }) ≡ field_in s at
+unfolding field_in field_at
+field_there s at v n k e q t =
+    ap (λ (o : Option ℕ). then_some (is_some o && k) (record { value = unwrap_or o 0; next = n.next + 1 })) (sym q)
+    ∙ ap (λ (b : Bool). then_some (is_some n.value && b) (record { value = unwrap_or n.value 0; next = n.next + 1 })) t
+    ∙ ap (λ (m : Number). then_some (is_some m.value && eqb (get_or s m.next 0) 44) (record { value = unwrap_or m.value 0; next = m.next + 1 })) e
 
--- ---- what the tests of `read` decide, of the numbers that it reads
+pub field_none : (s : List ℕ) (at : ℕ) (n : Number) → n ≡ number_at s at → n.value ≡ None → None ≡ field_in s at
+unfolding field_in field_at
+field_none s at n e q =
+    ap (λ (o : Option ℕ). then_some (is_some o && eqb (get_or s n.next 0) 44) (record { value = unwrap_or o 0; next = n.next + 1 })) (sym q)
+    ∙ ap (λ (m : Number). then_some (is_some m.value && eqb (get_or s m.next 0) 44) (record { value = unwrap_or m.value 0; next = m.next + 1 })) e
 
--- a number and a comma after it
-pub field_is : (s : List ℕ) (at : ℕ) (n : Number) (k : Bool) → n ≡ number_at s at → k ≡ eqb (get_or s n.next 0) 44 → (n.fits && k) ≡ field_at s at
-unfolding field_at
-field_is s at n k e q =
-    ap (λ (b : Bool). n.fits && b) q
-    ∙ ap (λ (m : Number). m.fits && eqb (get_or s m.next 0) 44) e
-
--- where the next number stands
-pub next_is : (s : List ℕ) (at : ℕ) (n m : Number) → n ≡ number_at s at → m ≡ number_at s (n.next + 1) → m ≡ number_at s ((number_at s at).next + 1)
-next_is s at n m e q = q ∙ ap (λ (k : Number). number_at s (k.next + 1)) e
-
-pub end_is : (s : List ℕ) (at : ℕ) (n : Number) (k : Bool) → n ≡ number_at s at → k ≡ ends_at s n.next → (n.fits && k) ≡ ((number_at s at).fits && ends_at s (number_at s at).next)
-end_is s at n k e q =
-    ap (λ (b : Bool). n.fits && b) q
-    ∙ ap (λ (m : Number). m.fits && ends_at s m.next) e
-
-module _ (s : List ℕ) (life from until : Number) (l : life ≡ number_at s 16) (f : from ≡ number_at s (from_place s)) (u : until ≡ number_at s (until_place s)) where
-  values_are : ◌≡◌ {A = Asked} (record { life = life.value; from = from.value; until = until.value }) (values_of s)
-  values_are = cc
-
-  pub read_unfit : asked_fits_of (record { life = life.value; from = from.value; until = until.value }) ≡ false → Refused ≡ input_of s
-  read_unfit e = no_fit s (sym (ap asked_fits_of values_are) ∙ e)
-
-  pub read_fit : same_octets_of (take 16 s) names ≡ true → field_at s 16 ≡ true → field_at s (from_place s) ≡ true
-      → ((number_at s (until_place s)).fits && ends_at s (number_at s (until_place s)).next) ≡ true
-      → asked_fits_of (record { life = life.value; from = from.value; until = until.value }) ≡ true
-      → Table (record { life = life.value; from = from.value; until = until.value }) ≡ input_of s
-  unfolding in_form
-  read_fit a b c d e =
-      let d₂ = both (number_at s (until_place s)).fits (ends_at s (number_at s (until_place s)).next) d in
-      ap Table values_are
-      ∙ accepted s (simp (a, b, c, d₂.0, d₂.1)) (sym (ap asked_fits_of values_are) ∙ e)
+pub last_is : (s : List ℕ) (at : ℕ) (n : Number) (k : Bool) → n ≡ number_at s at → k ≡ ends_at s n.next → cond k n.value None ≡ last_in s at
+unfolding last_in
+last_is s at n k e t =
+    go n.value k
+    ∙ ap (λ (b : Bool). then_some (is_some n.value && b) (unwrap_or n.value 0)) t
+    ∙ ap (λ (m : Number). then_some (is_some m.value && ends_at s m.next) (unwrap_or m.value 0)) e
+  where
+    go : (o : Option ℕ) (b : Bool) → cond b o None ≡ then_some (is_some o && b) (unwrap_or o 0)
+    go None true = refl
+    go None false = refl
+    go (Some v) true = refl
+    go (Some v) false = refl
 
 -- ---- an accepted input
 module _ (s : List ℕ) (a : Asked) where
-  pub table_is : input_of s ≡ Table a → (in_form s ≡ true) × (asked_fits_of a ≡ true)
+  pub table_is : input_of s ≡ Some a → (in_form s ≡ true) × (asked_fits_of a ≡ true)
   unfolding input_of
   table_is = go (in_form s && asked_fits_of (values_of s)) refl
     where
-      go : (t : Bool) → (in_form s && asked_fits_of (values_of s)) ≡ t → cond t (Table (values_of s)) Refused ≡ Table a → (in_form s ≡ true) × (asked_fits_of a ≡ true)
+      go : (t : Bool) → (in_form s && asked_fits_of (values_of s)) ≡ t → then_some t (values_of s) ≡ Some a → (in_form s ≡ true) × (asked_fits_of a ≡ true)
       go true e q =
           let b = both (in_form s) (asked_fits_of (values_of s)) e in
           let v : values_of s ≡ a = cc in
@@ -160,14 +162,14 @@ fitting_few : (ds : List ℕ) → fitting ds ≡ true → leb (length ds) 20 ≡
 unfolding fitting
 fitting_few ds e = (both (ltb (value_of ds) limit && leb 1 (length ds)) (leb (length ds) 20) e).1
 
-few_digits : (s : List ℕ) (at : ℕ) → (number_at s at).fits ≡ true → (number_at s at).next ≤ at + 20
+few_digits : (s : List ℕ) (at : ℕ) → is_some (number_at s at).value ≡ true → (number_at s at).next ≤ at + 20
 unfolding number_at number_of
 few_digits s at = go (fitting (leading (drop at s))) refl
   where
     few : (ds : List ℕ) → fitting ds ≡ true → length ds ≤ 20
     few ds e = leb-true (length ds) 20 (fitting_few ds e)
 
-    go : (t : Bool) → fitting (leading (drop at s)) ≡ t → (number_when t (value_of (leading (drop at s))) (at + length (leading (drop at s)))).fits ≡ true
+    go : (t : Bool) → fitting (leading (drop at s)) ≡ t → is_some (number_when t (value_of (leading (drop at s))) (at + length (leading (drop at s)))).value ≡ true
         → (number_when t (value_of (leading (drop at s))) (at + length (leading (drop at s)))).next ≤ at + 20
     go true e q = omega (arith, few (leading (drop at s)) e)
     go false e q = let z : ◌≡◌ {A = ℕ} 0 1 = cc in absurd (omega arith)
@@ -178,14 +180,14 @@ ends_soon s at e = ⊎_elim (λ q. omega (arith, eqb-true at (length s) q)) (λ 
 
 field_digits : (s : List ℕ) (at : ℕ) → field_at s at ≡ true → (number_at s at).next ≤ at + 20
 unfolding field_at
-field_digits s at e = few_digits s at (both (number_at s at).fits (eqb (get_or s (number_at s at).next 0) 44) e).0
+field_digits s at e = few_digits s at (both (is_some (number_at s at).value) (eqb (get_or s (number_at s at).next 0) 44) e).0
 
 -- 16 octets of names, three numbers of 20 digits, two commas and a line end
 pub form_short : (s : List ℕ) → in_form s ≡ true → length s ≤ 79
 unfolding in_form
 form_short s e =
     let s₄ = both _ (ends_at s (number_at s (until_place s)).next) e in
-    let s₃ = both _ (number_at s (until_place s)).fits s₄.0 in
+    let s₃ = both _ (is_some (number_at s (until_place s)).value) s₄.0 in
     let s₂ = both _ (field_at s (from_place s)) s₃.0 in
     let s₁ = both (same_octets_of (take 16 s) names) (field_at s 16) s₂.0 in
     omega (
@@ -196,11 +198,11 @@ form_short s e =
       ends_soon s (number_at s (until_place s)).next s₄.1,
     )
 
-pub accepted_short : (s : List ℕ) (a : Asked) → input_of s ≡ Table a → length s ≤ 79
+pub accepted_short : (s : List ℕ) (a : Asked) → input_of s ≡ Some a → length s ≤ 79
 accepted_short s a e = form_short s (table_is s a e).0
 
 -- so the first 128 octets decide
-refused_long : (s : List ℕ) → 79 < length s → Refused ≡ input_of s
+refused_long : (s : List ℕ) → 79 < length s → None ≡ input_of s
 refused_long s h = not_in_form s (go (in_form s) refl)
   where
     go : (t : Bool) → in_form s ≡ t → t ≡ false

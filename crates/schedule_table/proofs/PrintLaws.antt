@@ -16,8 +16,7 @@ use Rattle.text.proofs.DecimalLaws.{decimal_length_high}
 use Rattle.key_association.specs.Listing.{fresh_of}
 use Rattle.key_association.specs.Made.{Generations, Made, made_at, with_made, keys_made_from}
 use Rattle.schedule_table.specs.declared.input.Asked.{Asked}
-use Rattle.schedule_table.specs.declared.input.Input.{Input}
-use Rattle.schedule_table.specs.declared.input.Input.TheVariants.{Table, Refused}
+use Rattle.std.specs.Prelude.{Option, None, Some}
 use Rattle.schedule_table.specs.declared.print.Cursor.{Cursor}
 use Rattle.schedule_table.specs.Schedule.{zeros, every_half_of, row_octets, rows_of, table_of, output_for, output_of, input_of}
 use Rattle.schedule_table.specs.Print.{Steady, Part, nothing_asked, cursor_of, next_of, newer_row, start_for, start_of, part_when, fill_for, fill_of, line_of, rest_of, repeated}
@@ -87,7 +86,7 @@ unfolding rest_of every_half_of rows_of
 none_left c e = ap (λ (n : ℕ). rows_of (keys_made_from c.half (line_of c ∷ []) (every_half_of c.half c.clock n))) e
 
 -- ---- what `start` writes, and then the rest
-table_start : (a : Asked) → (start_for (Table a)).written ++ rest_of (cursor_of a) ≡ table_of a
+table_start : (a : Asked) → (start_for (Some a)).written ++ rest_of (cursor_of a) ≡ table_of a
 unfolding table_of rest_of rows_of cursor_of fresh_of
 table_start a = rw append_assoc
 
@@ -99,17 +98,17 @@ pub after_start : (s : List ℕ) → (start_of s).written ++ rest_of (start_of s
 unfolding start_of output_of
 after_start s = go (input_of s)
   where
-    go : (i : Input) → (start_for i).written ++ rest_of (start_for i).cursor ≡ output_for i
-    go (Table a) = table_start a
-    go Refused = ap (λ (r : List ℕ). 49 ∷ 10 ∷ r) (none_left (cursor_of nothing_asked) none_asked)
+    go : (i : Option Asked) → (start_for i).written ++ rest_of (start_for i).cursor ≡ output_for i
+    go (Some a) = table_start a
+    go None = ap (λ (r : List ℕ). 49 ∷ 10 ∷ r) (none_left (cursor_of nothing_asked) none_asked)
 
 pub start_steady : (s : List ℕ) → Steady (start_of s).cursor
 unfolding start_of
 start_steady s = go (input_of s) refl
   where
-    go : (i : Input) → input_of s ≡ i → Steady (start_for i).cursor
-    go (Table a) e = first_steady a (table_is s a e).1
-    go Refused e = first_steady nothing_asked refused_fits
+    go : (i : Option Asked) → input_of s ≡ i → Steady (start_for i).cursor
+    go (Some a) e = first_steady a (table_is s a e).1
+    go None e = first_steady nothing_asked refused_fits
 
 -- ---- what `fill` writes, and then the rest
 next_left : (c : Cursor) → (next_of c).left ≡ c.left - 1

@@ -6,8 +6,7 @@ use Rattle.key_association.specs.Listing.{fresh_of}
 use Rattle.key_association.specs.Made.{Made, Generations, keys_made_from}
 use Rattle.key_association.specs.Roll.{rolled_of}
 use Rattle.schedule_table.specs.declared.input.Asked.{Asked}
-use Rattle.schedule_table.specs.declared.input.Input.{Input}
-use Rattle.schedule_table.specs.declared.input.Input.TheVariants.{Table, Refused}
+use Rattle.std.specs.Prelude.{Option, None, Some}
 use Rattle.schedule_table.specs.declared.print.Cursor.{Cursor}
 use Rattle.schedule_table.specs.declared.print.Printed.{Printed}
 use Rattle.schedule_table.specs.Schedule.{zeros, half_life, every_half_of, row_octets, rows_of, header, input_of}
@@ -70,13 +69,13 @@ abbrev pub newer_row : Cursor → List ℕ
 newer_row c = key_row c.generation c.clock c.held.newer
 
 -- `1` alone, or the header and the rows of generations 0 and 1
-abbrev pub start_for : Input → Part
-start_for (Table a) =
+abbrev pub start_for : Option Asked → Part
+start_for (Some a) =
     record {
       written = header ++ key_row 0 a.from (cursor_of a).held.older ++ key_row 1 a.from (cursor_of a).held.newer;
       cursor = cursor_of a;
     }
-start_for Refused = record { written = 49 ∷ 10 ∷ []; cursor = cursor_of nothing_asked }
+start_for None = record { written = 49 ∷ 10 ∷ []; cursor = cursor_of nothing_asked }
 
 unfoldable pub start_of : List ℕ → Part
 start_of s = start_for (input_of s)

@@ -1,12 +1,12 @@
 -- What the schedule program reads and prints (document 01, "Edges").
-use Rattle.std.specs.Prelude.{Bool, cond, ◌&&◌, ◌||◌, List, [], ◌∷◌, ◌++◌, ℕ, zero, suc, ◌+◌, ◌-◌, ◌/◌, ◌%◌, leb, eqb, length, take, get_or, replicate}
+use Rattle.std.specs.Prelude.{Option, None, Some, is_some, unwrap_or, Bool, ◌&&◌, ◌||◌, List, [], ◌∷◌, ◌++◌, ℕ, zero, suc, ◌+◌, ◌-◌, ◌/◌, ◌%◌, leb, eqb, length, take, get_or, replicate}
+use Rattle.std.specs.Bool.{then_some}
 use Rattle.questions.specs.Settings.{life_fits_of}
 use Rattle.text.specs.Decimal.{number_at, decimal_of}
 use Rattle.text.specs.Same.{same_octets_of}
 use Rattle.key_association.specs.Made.{Made, Accepted, listing, clock, keys_made}
 use Rattle.schedule_table.specs.declared.input.Asked.{Asked}
-use Rattle.schedule_table.specs.declared.input.Input.{Input}
-use Rattle.schedule_table.specs.declared.input.Input.TheVariants.{Table, Refused}
+use Rattle.schedule_table.specs.declared.input.Field.{Field}
 
 -- ---- what is read
 
@@ -20,7 +20,7 @@ ends_at s at = eqb at (length s) || (eqb (at + 1) (length s) && eqb (get_or s at
 
 -- A number stands at a place, and a comma after it
 unfoldable pub field_at : List ℕ → ℕ → Bool
-field_at s at = (number_at s at).fits && eqb (get_or s (number_at s at).next 0) 44
+field_at s at = is_some (number_at s at).value && eqb (get_or s (number_at s at).next 0) 44
 
 -- Where the three values start
 abbrev pub from_place : List ℕ → ℕ
@@ -35,7 +35,7 @@ in_form s =
     same_octets_of (take 16 s) names
     && field_at s 16
     && field_at s (from_place s)
-    && (number_at s (until_place s)).fits
+    && is_some (number_at s (until_place s)).value
     && ends_at s (number_at s (until_place s)).next
 
 -- The life within its limits, `from` at most `until`, both at most 10^12
@@ -43,10 +43,24 @@ unfoldable pub asked_fits_of : Asked → Bool
 asked_fits_of a = life_fits_of a.life && leb a.from a.until && leb a.until 1000000000000
 
 abbrev pub values_of : List ℕ → Asked
-values_of s = record { life = (number_at s 16).value; from = (number_at s (from_place s)).value; until = (number_at s (until_place s)).value }
+values_of s =
+    record {
+      life = unwrap_or (number_at s 16).value 0;
+      from = unwrap_or (number_at s (from_place s)).value 0;
+      until = unwrap_or (number_at s (until_place s)).value 0;
+    }
 
-unfoldable pub input_of : List ℕ → Input
-input_of s = cond (in_form s && asked_fits_of (values_of s)) (Table (values_of s)) Refused
+-- What is asked for, or nothing where the input is refused
+unfoldable pub input_of : List ℕ → Option Asked
+input_of s = then_some (in_form s && asked_fits_of (values_of s)) (values_of s)
+
+-- As the code reads them: a number before a comma, with the place after the comma, and a number before the end
+unfoldable pub field_in : List ℕ → ℕ → Option Field
+field_in s at = then_some (field_at s at) (record { value = unwrap_or (number_at s at).value 0; next = (number_at s at).next + 1 })
+
+unfoldable pub last_in : List ℕ → ℕ → Option ℕ
+last_in s at =
+    then_some (is_some (number_at s at).value && ends_at s (number_at s at).next) (unwrap_or (number_at s at).value 0)
 
 -- ---- what is printed
 
@@ -96,9 +110,9 @@ unfoldable pub table_of : Asked → List ℕ
 table_of a = header ++ rows_of (keys_made (half_life a) (calls_of a))
 
 -- All that the program prints: the table, or `1` alone
-abbrev pub output_for : Input → List ℕ
-output_for (Table a) = table_of a
-output_for Refused = 49 ∷ 10 ∷ []
+abbrev pub output_for : Option Asked → List ℕ
+output_for (Some a) = table_of a
+output_for None = 49 ∷ 10 ∷ []
 
 unfoldable pub output_of : List ℕ → List ℕ
 output_of s = output_for (input_of s)

@@ -1,7 +1,7 @@
 // What the schedule program is asked for: a line of names and one of values.
 ghost use Rattle.std.specs.Prelude.{◌≡◌, true, ◌<◌, eqb, length, take, get_or};
 ghost use Rattle.text.specs.Same.{same_octets_of};
-ghost use Rattle.schedule_table.specs.Schedule.{names, ends_at, asked_fits_of, input_of};
+ghost use Rattle.schedule_table.specs.Schedule.{names, ends_at, asked_fits_of, field_in, last_in, input_of};
 
 use questions::limits::CLOCK_MAX;
 use questions::settings::life_fits;
@@ -19,45 +19,25 @@ pub struct Asked {
     pub until: u64,
 }
 
-// What the input asks for: a table, or nothing that is given.
+// A number before a comma, and the place after the comma.
 #[derive(Clone, Copy)]
-pub enum Input {
-    Table(Asked),
-    Refused,
-}
-
-// Whether `s` starts with `line`.
-fn starts_with(s: &[u8], line: &[u8]) -> bool
-    ensures { result ≡ same_octets_of (take (length line.now) s.now) line.now }
-{
-    if s.len() < line.len() {
-        return false;
-    }
-    let mut i: usize = 0;
-    while i < line.len() {
-        if s[i] != line[i] {
-            return false;
-        }
-        i += 1;
-    }
-    true
+struct Field {
+    value: u64,
+    next: usize,
 }
 
 // Whether the line of names stands first.
 fn has_names(s: &[u8]) -> bool
     ensures { result ≡ same_octets_of (take 16 s.now) names }
 {
-    starts_with(s, b"life,from,until\n")
+    s.starts_with(b"life,from,until\n")
 }
 
 // Whether a comma stands at a place.
 fn comma_at(s: &[u8], at: usize) -> bool
     ensures { (result ≡ eqb (get_or s.now at 0) 44) × (result ≡ true → at < length s.now) }
 {
-    if s.len() <= at {
-        return false;
-    }
-    s[at] == COMMA
+    at < s.len() && s[at] == COMMA
 }
 
 // Whether nothing stands from a place on, or one end of a line and then nothing.
@@ -65,9 +45,10 @@ fn ends_at(s: &[u8], at: usize) -> bool
     ensures { result ≡ ends_at s.now at }
 {
     if s.len() <= at {
-        return at == s.len();
+        at == s.len()
+    } else {
+        (s.len() - at == 1) & (s[at] == LINE_FEED)
     }
-    (s.len() - at == 1) & (s[at] == LINE_FEED)
 }
 
 fn asked_fits(a: Asked) -> bool
@@ -76,32 +57,43 @@ fn asked_fits(a: Asked) -> bool
     life_fits(a.life) & (a.from <= a.until) & (a.until <= CLOCK_MAX)
 }
 
-// What the input asks for (document 01, "Edges").
-pub fn read(input: &[u8]) -> Input
+// The number at a place, where a comma follows it.
+fn field_at(s: &[u8], at: usize) -> Option<Field>
+    ensures { result ≡ field_in s.now at }
+{
+    let n = number_at(s, at);
+    let value = n.value?;
+    if !comma_at(s, n.next) {
+        return None;
+    }
+    Some(Field {
+        value,
+        next: n.next + 1,
+    })
+}
+
+// The number at a place, where the input ends after it.
+fn last_at(s: &[u8], at: usize) -> Option<u64>
+    ensures { result ≡ last_in s.now at }
+{
+    let n = number_at(s, at);
+    if ends_at(s, n.next) { n.value } else { None }
+}
+
+// What the input asks for (document 01, "Edges"), or nothing where it is refused.
+pub fn read(input: &[u8]) -> Option<Asked>
     ensures { result ≡ input_of input.now }
 {
     if !has_names(input) {
-        return Input::Refused;
+        return None;
     }
-    let life = number_at(input, NAMES_OCTETS);
-    if !(life.fits & comma_at(input, life.next)) {
-        return Input::Refused;
-    }
-    let from = number_at(input, life.next + 1);
-    if !(from.fits & comma_at(input, from.next)) {
-        return Input::Refused;
-    }
-    let until = number_at(input, from.next + 1);
-    if !(until.fits & ends_at(input, until.next)) {
-        return Input::Refused;
-    }
+    let life = field_at(input, NAMES_OCTETS)?;
+    let from = field_at(input, life.next)?;
+    let until = last_at(input, from.next)?;
     let asked = Asked {
         life: life.value,
         from: from.value,
-        until: until.value,
+        until,
     };
-    if asked_fits(asked) {
-        return Input::Table(asked);
-    }
-    Input::Refused
+    asked_fits(asked).then_some(asked)
 }

@@ -1,12 +1,11 @@
 // The table, streamed: each call writes what fits into a lent slice and hands back a cursor.
-ghost use Rattle.std.specs.Prelude.{◌≡◌, true, ◌+◌, ◌≤◌, length};
+ghost use Rattle.std.specs.Prelude.{◌≡◌, true, ◌+◌, ◌≤◌, length, None, Some};
 ghost use Rattle.key_traffic.specs.Put.{Put};
 ghost use Rattle.key_traffic.specs.Octets.{overlay};
 ghost use Rattle.schedule_table.specs.Schedule.{asked_fits_of};
-ghost use Rattle.schedule_table.specs.declared.input.Input.TheVariants.{Table, Refused};
 ghost use Rattle.schedule_table.specs.Print.{Steady, cursor_of, next_of, start_for, start_of, fill_of, printed_of, newer_row};
 
-use crate::input::{Asked, Input, read};
+use crate::input::{Asked, read};
 use crate::row::{ROW_MAX, put_header, put_row};
 use key_association::listing::{Listing, listed};
 use key_association::record::Assoc;
@@ -14,10 +13,7 @@ use key_association::roll::rolled;
 use key_traffic::suites::SUITE_AES;
 use key_traffic::traffic::SAID_MATERIAL;
 use questions::limits::TEK_LIFE_MIN;
-use text::characters::LINE_FEED;
-
-// Octets of what a refused input gets: `1` and a line feed.
-const REFUSED_OCTETS: usize = 2;
+use text::put::put_text;
 
 // Where the table stands: the record as the engine makes it, the generation of its newer key, the second of the last call, and
 // how many clock calls are left.
@@ -51,11 +47,11 @@ fn first_cursor(a: Asked) -> Cursor
     let material = [0u8; SAID_MATERIAL];
     let held = listed(listing, 0, half, a.from, &material, 0);
     Cursor {
-        half: half,
+        half,
         clock: a.from,
         left: (a.until - a.from) / half,
         generation: 1,
-        held: held,
+        held,
     }
 }
 
@@ -64,56 +60,46 @@ fn next_cursor(c: Cursor) -> Cursor
     requires { Steady c × (1 ≤ c.left) }
     ensures { result ≡ next_of c }
 {
-    let t = c.clock + c.half;
-    let old = c.held;
+    let clock = c.clock + c.half;
     let material = [0u8; SAID_MATERIAL];
-    let held = rolled(old, c.half, t, &material, 0);
     Cursor {
-        half: c.half,
-        clock: t,
+        clock,
         left: c.left - 1,
         generation: c.generation + 1,
-        held: held,
+        held: rolled(c.held, c.half, clock, &material, 0),
+        ..c
     }
 }
 
 // `1` alone, with nothing left.
 fn start_refused(out: &mut [u8]) -> Printed
     requires { 256 ≤ length out.old }
-    ensures value { result ≡ printed_of (start_for Refused) }
-    ensures out_after { out.new ≡ overlay out.old (start_for Refused).written }
+    ensures value { result ≡ printed_of (start_for None) }
+    ensures out_after { out.new ≡ overlay out.old (start_for None).written }
 {
-    out[0] = b'1';
-    out[1] = LINE_FEED;
+    let count = put_text(out, 0, b"1\n");
     let cursor = first_cursor(Asked {
         life: TEK_LIFE_MIN,
         from: 0,
         until: 0,
     });
-    Printed {
-        count: REFUSED_OCTETS,
-        cursor: cursor,
-    }
+    Printed { count, cursor }
 }
 
 // The header and the rows of generations 0 and 1.
 fn start_table(a: Asked, out: &mut [u8]) -> Printed
     requires { (asked_fits_of a ≡ true) × (256 ≤ length out.old) }
-    ensures value { result ≡ printed_of (start_for (Table a)) }
-    ensures out_after { out.new ≡ overlay out.old (start_for (Table a)).written }
+    ensures value { result ≡ printed_of (start_for (Some a)) }
+    ensures out_after { out.new ≡ overlay out.old (start_for (Some a)).written }
     ensures count_in_bounds { result.count ≤ length out.old }
 {
     let cursor = first_cursor(a);
-    let held = cursor.held;
-    let older = held.older;
-    let newer = held.newer;
+    let older = cursor.held.older;
+    let newer = cursor.held.newer;
     let p = put_header(out);
     let q = put_row(out, p, 0, older.number.0 as u64, a.from, older.deadline);
-    let r = put_row(out, q, 1, newer.number.0 as u64, a.from, newer.deadline);
-    Printed {
-        count: r,
-        cursor: cursor,
-    }
+    let count = put_row(out, q, 1, newer.number.0 as u64, a.from, newer.deadline);
+    Printed { count, cursor }
 }
 
 // Writes what comes first.
@@ -123,10 +109,9 @@ pub fn start(input: &[u8], out: &mut [u8]) -> Printed
     ensures out_after { out.new ≡ overlay out.old (start_of input.now).written }
     ensures count_in_bounds { (result.count ≤ length out.old) × Steady result.cursor }
 {
-    let asked = read(input);
-    match asked {
-        Input::Table(a) => start_table(a, out),
-        Input::Refused => start_refused(out),
+    match read(input) {
+        Some(a) => start_table(a, out),
+        None => start_refused(out),
     }
 }
 
@@ -136,8 +121,7 @@ fn put_newer(out: &mut [u8], at: usize, c: Cursor) -> usize
     ensures put { Put out.old at (newer_row c) result out.new }
     ensures upper_bound { result ≤ at + 84 }
 {
-    let held = c.held;
-    let newer = held.newer;
+    let newer = c.held.newer;
     put_row(
         out,
         at,
@@ -157,12 +141,10 @@ pub fn fill(c: Cursor, out: &mut [u8]) -> Printed
 {
     let mut cursor = c;
     let mut at: usize = 0;
+    // as many turns as calls are left and rows have room: both are known only as it goes
     while (1 <= cursor.left) & (ROW_MAX <= out.len() - at) {
         cursor = next_cursor(cursor);
         at = put_newer(out, at, cursor);
     }
-    Printed {
-        count: at,
-        cursor: cursor,
-    }
+    Printed { count: at, cursor }
 }

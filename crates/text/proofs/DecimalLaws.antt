@@ -8,6 +8,7 @@ use lib.ListN.{length, get_or, drop, replicate, get_or-append}
 use lib.Seq.{drop-append_seam}
 use lib.Dec.{ltb}
 use borrow.Author.Tests.{lt-ltb, le-leb}
+use Rattle.std.specs.Prelude.{Some}
 use Rattle.text.specs.Decimal.{limit, is_digit_of, keep, leading, value_from, value_of, number_when, fitting, number_of, number_at, decimal_of, decimal_with}
 use Rattle.text.proofs.Digits.{by_digits, decimal_few, decimal_more, length_few, length_more, IfLt, if_lt}
 
@@ -108,7 +109,7 @@ fitting_decimal n h =
 
 -- what is written at a place reads back there
 pub read_back : (pre rest : List ℕ) (n : ℕ) → n < limit → leading rest ≡ []
-    → number_at (pre ++ decimal_of n ++ rest) (length pre) ≡ record { fits = true; value = n; next = length pre + length (decimal_of n) }
+    → number_at (pre ++ decimal_of n ++ rest) (length pre) ≡ record { value = Some n; next = length pre + length (decimal_of n) }
 unfolding number_at number_of
 read_back pre rest n h e =
     let d : leading (drop (length pre) (pre ++ decimal_of n ++ rest)) ≡ decimal_of n =

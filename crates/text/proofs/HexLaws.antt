@@ -1,34 +1,17 @@
 -- Laws of hexadecimal digits: what is read of them, and what is written reads back.
 use mathlib.Core.Path.{◌≡◌, refl, sym, ap, ◌∙◌}
-use mathlib.Core.Bool.{true, false}
 use mathlib.Core.List.{List, [], ◌∷◌, ◌++◌}
 use Prim.Native.Nat.{ℕ, zero, suc, ◌+◌, ◌*◌, ◌-◌, ◌/◌, ◌%◌, ◌≤◌, ◌<◌}
+use native.Mathlib.Nat.{add-sub_cancel_left}
 use native.Mathlib.Numerals.{add-one}
 use native.Mathlib.Omega.{arith}
-use lib.Dec.{leb}
-use lib.ListN.{length, get_or, take, drop, set, drop_of_length-le, length-drop}
-use lib.Seq.{sets, drop-cons, take-suc, length-take-le, get_or-drop}
-use borrow.Author.Tests.{leb-true}
-use Rattle.questions.proofs.TestLaws.{both}
+use lib.ListN.{length, get_or, take, drop, set, length-drop}
+use lib.Seq.{sets, take-suc, length-take-le}
 use Rattle.key_traffic.proofs.OctetsLaws.{put_more}
 use Rattle.key_traffic.proofs.StoreLaws.{sets_append}
 use Rattle.key_traffic.specs.Octets.{overlay}
-use Rattle.text.specs.Hex.{is_ten, is_six, is_hex_of, hex_value_of, all_hex_of, octets_value, hex_digit_of, hex_of}
-
--- ---- digits one at a time
-
-module _ (l : List ℕ) (i : ℕ) where
-  pub hex_end : length l ≤ i → all_hex_of (drop i l) ≡ true
-  unfolding all_hex_of
-  hex_end h = rw (drop_of_length-le l h)
-
-  pub hex_here : i < length l → is_hex_of (get_or l i 0) ≡ true → all_hex_of (drop i l) ≡ all_hex_of (drop (i + 1) l)
-  unfolding all_hex_of
-  hex_here h e = rw (drop-cons l i 0 h, add-one i, e)
-
-  pub hex_not : i < length l → is_hex_of (get_or l i 0) ≡ false → all_hex_of (drop i l) ≡ false
-  unfolding all_hex_of
-  hex_not h e = rw (drop-cons l i 0 h, e)
+use Rattle.std.specs.Simd.{first_chunks}
+use Rattle.text.specs.Hex.{hex_value_of, octets_value, hex_digit_of, hex_of}
 
 -- ---- octets
 
@@ -41,21 +24,15 @@ octets_length (suc n) (a ∷ b ∷ l) h =
     let e : 2 * suc n ≡ suc (suc (2 * n)) = omega arith in
     rw e (ap suc (octets_length n l (omega arith)))
 
--- the octet at i is of the digits at 2 i and after it
-pub octet_at : (n : ℕ) (l : List ℕ) (i : ℕ) → 2 * n ≤ length l → i < n
-    → get_or (octets_value (take (2 * n) l)) i 0 ≡ hex_value_of (get_or l (2 * i) 0) * 16 + hex_value_of (get_or l (2 * i + 1) 0)
+-- the octet at i is of the pair of digits at i
+pub octet_at : (n : ℕ) (l : List ℕ) (i : ℕ) → length l ≡ 2 * n → i < n
+    → hex_value_of (get_or (get_or (first_chunks 2 n l) i []) 0 0) * 16 + hex_value_of (get_or (get_or (first_chunks 2 n l) i []) 1 0) ≡ get_or (octets_value l) i 0
 unfolding octets_value
 octet_at zero l i h k = absurd (omega arith)
 octet_at (suc n) [] i h k = absurd (omega arith)
 octet_at (suc n) (a ∷ []) i h k = absurd (omega arith)
-octet_at (suc n) (a ∷ b ∷ l) zero h k =
-    let e : 2 * suc n ≡ suc (suc (2 * n)) = omega arith in
-    rw e refl
-octet_at (suc n) (a ∷ b ∷ l) (suc i) h k =
-    let e : 2 * suc n ≡ suc (suc (2 * n)) = omega arith in
-    let d : 2 * suc i ≡ suc (suc (2 * i)) = omega arith in
-    let f : suc (suc (2 * i)) + 1 ≡ suc (suc (2 * i + 1)) = omega arith in
-    rw (e, d, f) (octet_at n l i (omega arith) (omega arith))
+octet_at (suc n) (a ∷ b ∷ l) zero h k = refl
+octet_at (suc n) (a ∷ b ∷ l) (suc i) h k = octet_at n l i (omega arith) (omega arith)
 
 -- a last digit without its second says nothing
 pub octets_even : (n : ℕ) (l : List ℕ) → length l ≤ 2 * n + 1 → octets_value (take (2 * n) l) ≡ octets_value l
@@ -102,42 +79,30 @@ hex_more d v at i h =
 
 -- ---- what the code does
 
-pub ten_is : (b : ℕ) → is_ten b ≡ true → (48 ≤ b) × (b ≤ 57)
-ten_is b e = let h = both (leb 48 b) (leb b 57) e in (leb-true 48 b h.0, leb-true b 57 h.1)
-
-pub six_is : (b : ℕ) → is_six b ≡ true → (97 ≤ b) × (b ≤ 102)
-six_is b e = let h = both (leb 97 b) (leb b 102) e in (leb-true 97 b h.0, leb-true b 102 h.1)
-
-pub value_ten : (b : ℕ) → is_ten b ≡ true → (b - 48 ≡ hex_value_of b) × (b - 48 ≤ 15)
-unfolding hex_value_of
-value_ten b e = (rw e refl, omega (arith, ten_is b e))
-
-pub value_six : (b : ℕ) → is_ten b ≡ false → is_six b ≡ true → (b - 87 ≡ hex_value_of b) × (b - 87 ≤ 15)
-unfolding hex_value_of
-value_six b e q = (rw (e, q) refl, omega (arith, six_is b q))
-
-pub value_other : (b : ℕ) → is_ten b ≡ false → is_six b ≡ false → (0 ≡ hex_value_of b) × (0 ≤ 15)
-unfolding hex_value_of
-value_other b e q = (rw (e, q) refl, omega arith)
-
 -- one octet more is decoded
 module _ (l : List ℕ) (at count : ℕ) (within : at + 2 * count ≤ length l) where
   pub decoded_length : length (octets_value (take (2 * count) (drop at l))) ≡ count
   decoded_length = octets_length count (drop at l) (simp length-drop (omega arith))
 
-  pub decoded : (d e : List ℕ) (i h k : ℕ) → i < count → count ≤ length d
-      → h ≡ hex_value_of (get_or l (at + 2 * i) 0)
-      → k ≡ hex_value_of (get_or l (at + 2 * i + 1) 0)
+  -- the digits, as the code cuts them into pairs
+  pub digits_cut : take (at + 2 * count - at) (drop at l) ≡ take (2 * count) (drop at l)
+  digits_cut = ap (λ (n : ℕ). take n (drop at l)) (add-sub_cancel_left at (2 * count))
+
+  pub digits_length : length (take (2 * count) (drop at l)) ≡ 2 * count
+  digits_length = length-take-le (2 * count) (drop at l) (simp length-drop (omega arith))
+
+  pub pairs_are : first_chunks 2 (length (take (at + 2 * count - at) (drop at l)) / 2) (take (at + 2 * count - at) (drop at l)) ≡ first_chunks 2 count (take (2 * count) (drop at l))
+  pairs_are =
+      ap (λ (d : List ℕ). first_chunks 2 (length d / 2) d) digits_cut
+      ∙ ap (λ (n : ℕ). first_chunks 2 n (take (2 * count) (drop at l))) (omega (arith, digits_length))
+
+  pub decoded : (d e : List ℕ) (i x : ℕ) → i < count → count ≤ length d
+      → x ≡ get_or (octets_value (take (2 * count) (drop at l))) i 0
       → e ≡ overlay d (take i (octets_value (take (2 * count) (drop at l))))
-      → set e i (h * 16 + k) ≡ overlay d (take (i + 1) (octets_value (take (2 * count) (drop at l))))
-  decoded d e i h k small room high low q =
+      → set e i x ≡ overlay d (take (i + 1) (octets_value (take (2 * count) (drop at l))))
+  decoded d e i x small room one q =
       let o = octets_value (take (2 * count) (drop at l)) in
-      let p : at + (2 * i + 1) ≡ at + 2 * i + 1 = omega arith in
-      let x : h * 16 + k ≡ get_or o i 0 =
-      ap (λ (n : ℕ). n * 16 + k) (high ∙ ap hex_value_of (sym (get_or-drop at l (2 * i) 0)))
-      ∙ ap (λ (n : ℕ). hex_value_of (get_or (drop at l) (2 * i) 0) * 16 + n) (low ∙ ap (λ (n : ℕ). hex_value_of (get_or l n 0)) (sym p) ∙ ap hex_value_of (sym (get_or-drop at l (2 * i + 1) 0)))
-      ∙ sym (octet_at count (drop at l) i (simp length-drop (omega arith)) small) in
-      ap (λ (n : ℕ). set e i n) x
+      ap (λ (n : ℕ). set e i n) one
       ∙ ap (λ (r : List ℕ). set r i (get_or o i 0)) q
       ∙ put_more d o i (omega (arith, decoded_length)) (omega arith)
 

@@ -11,8 +11,8 @@ use lib.Seq.{drop-cons}
 use lib.Dec.{ltb, leb}
 use borrow.Author.Tests.{leb-true, lt-ltb, le-ltb}
 use Rattle.text.specs.declared.decimal.Number.{Number}
-use Rattle.text.specs.declared.decimal.Partial.{Partial}
-use Rattle.text.specs.Decimal.{limit, is_digit_of, keep, leading, value_from, value_of, number_when, fitting, number_of, number_at, partial_when, partial_of, append_when, append_to, number_from_of}
+use Rattle.std.specs.Prelude.{Option, None, Some}
+use Rattle.text.specs.Decimal.{limit, is_digit_of, keep, leading, value_from, value_of, number_when, fitting, number_of, number_at, partial_when, partial_of, append_to, number_from_of}
 use Rattle.text.proofs.Digits.{IfLt, if_lt}
 
 abbrev pick_number : Bool → Number → Number → Number
@@ -20,44 +20,38 @@ pick_number true m n = m
 pick_number false m n = n
 
 -- the answer once p is read, the digits began at `at`, and `i` is the place of the octets that follow
-unfoldable pub read_on : ℕ → ℕ → Partial → List ℕ → Number
+unfoldable pub read_on : ℕ → ℕ → Option ℕ → List ℕ → Number
 read_on at i p [] = number_from_of p (i - at) i
 read_on at i p (b ∷ l) = pick_number (is_digit_of b) (read_on at (suc i) (append_to p b) l) (number_from_of p (i - at) i)
 
-module _ (s : List ℕ) (at i : ℕ) (p : Partial) where
-  pub read_end : length s ≤ i → read_on at i p (drop i s) ≡ number_from_of p (i - at) i
+-- what stands from i on in the octets that follow `at`
+module _ (s : List ℕ) (at i : ℕ) (p : Option ℕ) where
+  pub read_end : length s ≤ i → read_on at (at + i) p (drop i s) ≡ number_from_of p i (at + i)
   unfolding read_on
-  read_end h = rw (drop_of_length-le s h)
+  read_end h = rw (drop_of_length-le s h, add-sub_cancel_left at i)
 
-  pub read_stop : i < length s → is_digit_of (get_or s i 0) ≡ false → read_on at i p (drop i s) ≡ number_from_of p (i - at) i
+  pub read_stop : i < length s → is_digit_of (get_or s i 0) ≡ false → read_on at (at + i) p (drop i s) ≡ number_from_of p i (at + i)
   unfolding read_on
-  read_stop h e = rw (drop-cons s i 0 h, e)
+  read_stop h e = rw (drop-cons s i 0 h, e, add-sub_cancel_left at i)
 
-  pub read_more : i < length s → is_digit_of (get_or s i 0) ≡ true → read_on at i p (drop i s) ≡ read_on at (i + 1) (append_to p (get_or s i 0)) (drop (i + 1) s)
+  pub read_more : i < length s → is_digit_of (get_or s i 0) ≡ true → read_on at (at + i) p (drop i s) ≡ read_on at (at + (i + 1)) (append_to p (get_or s i 0)) (drop (i + 1) s)
   unfolding read_on
-  read_more h e = rw (drop-cons s i 0 h, e, add-one)
+  read_more h e = let q : at + suc i ≡ suc (at + i) = omega arith in rw (drop-cons s i 0 h, e, add-one i, q)
 
 pub append_partial : (v b : ℕ) → append_to (partial_of v) b ≡ partial_of (v * 10 + (b - 48))
-unfolding append_to partial_of
 append_partial v b = go (ltb v limit) (if_lt v limit)
   where
-    go : (t : Bool) → IfLt v limit t → append_when (partial_when t v).fits ((partial_when t v).value * 10 + (b - 48)) ≡ partial_of (v * 10 + (b - 48))
+    go : (t : Bool) → IfLt v limit t → append_to (partial_when t v) b ≡ partial_of (v * 10 + (b - 48))
     go true h = refl
     go false h = simp (le-ltb (v * 10 + (b - 48)) limit (omega arith))
 
--- what the tests of `appended` decide
-module _ (p : Partial) (b : ℕ) where
-  pub append_unfit : p.fits ≡ false → partial_of limit ≡ append_to p b
-  unfolding append_to partial_of
-  append_unfit e = simp e
+-- a number and a digit more, by whether they fit
+module _ (v b : ℕ) where
+  pub append_over : limit ≤ v * 10 + (b - 48) → None ≡ append_to (Some v) b
+  append_over h = simp (le-ltb (v * 10 + (b - 48)) limit h)
 
-  pub append_over : p.fits ≡ true → limit ≤ p.value * 10 + (b - 48) → partial_of limit ≡ append_to p b
-  unfolding append_to partial_of
-  append_over e h = simp (e, le-ltb (p.value * 10 + (b - 48)) limit h)
-
-  pub append_fits : p.fits ≡ true → p.value * 10 + (b - 48) < limit → partial_when true (p.value * 10 + (b - 48)) ≡ append_to p b
-  unfolding append_to partial_of
-  append_fits e h = simp (e, lt-ltb (p.value * 10 + (b - 48)) limit h)
+  pub append_fits : v * 10 + (b - 48) < limit → Some (v * 10 + (b - 48)) ≡ append_to (Some v) b
+  append_fits h = simp (lt-ltb (v * 10 + (b - 48)) limit h)
 
 pub digit_low : (b : ℕ) → is_digit_of b ≡ true → 48 ≤ b
 unfolding is_digit_of
@@ -80,10 +74,9 @@ read_all at i v (b ∷ l) = go (is_digit_of b) (read_all at (suc i) (v * 10 + (b
     go false ih = rw add-zero
 
 number_partial : (v n next : ℕ) → number_from_of (partial_of v) n next ≡ number_when (ltb v limit && leb 1 n && leb n 20) v next
-unfolding number_from_of partial_of
 number_partial v n next = go (ltb v limit)
   where
-    go : (t : Bool) → number_when ((partial_when t v).fits && leb 1 n && leb n 20) (partial_when t v).value next ≡ number_when (t && leb 1 n && leb n 20) v next
+    go : (t : Bool) → number_from_of (partial_when t v) n next ≡ number_when (t && leb 1 n && leb n 20) v next
     go true = refl
     go false = refl
 

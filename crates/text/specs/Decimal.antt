@@ -1,7 +1,6 @@
 -- Decimal numbers as octets: the digits at a place of a list and what they say, and the digits of a number.
-use Rattle.std.specs.Prelude.{ℕ, zero, suc, ◌+◌, ◌*◌, ◌-◌, ◌/◌, ◌%◌, List, [], ◌∷◌, ◌++◌, Bool, true, false, ◌&&◌, length, drop, leb, ltb}
+use Rattle.std.specs.Prelude.{Option, None, Some, ℕ, zero, suc, ◌+◌, ◌*◌, ◌-◌, ◌/◌, ◌%◌, List, [], ◌∷◌, ◌++◌, Bool, true, false, ◌&&◌, length, drop, leb, ltb}
 use Rattle.text.specs.declared.decimal.Number.{Number}
-use Rattle.text.specs.declared.decimal.Partial.{Partial}
 
 -- "0" to "9"
 unfoldable pub is_digit_of : ℕ → Bool
@@ -28,8 +27,8 @@ value_of l = value_from 0 l
 
 -- what is answered for a value, by whether it fits
 abbrev pub number_when : Bool → ℕ → ℕ → Number
-number_when true v next = record { fits = true; value = v; next = next }
-number_when false v next = record { fits = false; value = 0; next = next }
+number_when true v next = record { value = Some v; next = next }
+number_when false v next = record { value = None; next = next }
 
 -- 2^64
 abbrev pub limit : ℕ
@@ -59,26 +58,23 @@ decimal_of n = decimal_with (suc n) (ltb n 10) n
 
 -- ---- one digit at a time, as the code reads
 
-abbrev pub partial_when : Bool → ℕ → Partial
-partial_when true v = record { fits = true; value = v }
-partial_when false v = record { fits = false; value = 0 }
+abbrev pub partial_when : Bool → ℕ → Option ℕ
+partial_when true v = Some v
+partial_when false v = None
 
--- the digits so far say v
-unfoldable pub partial_of : ℕ → Partial
+-- the digits so far say v, where it is below the limit
+abbrev pub partial_of : ℕ → Option ℕ
 partial_of v = partial_when (ltb v limit) v
 
--- a number that does not fit fits no better with a digit more
-abbrev pub append_when : Bool → ℕ → Partial
-append_when true v = partial_of v
-append_when false v = partial_when false 0
-
--- the number with one digit more
-unfoldable pub append_to : Partial → ℕ → Partial
-append_to p b = append_when p.fits (p.value * 10 + (b - 48))
+-- the number with one digit more; one that does not fit fits no better with a digit more
+abbrev pub append_to : Option ℕ → ℕ → Option ℕ
+append_to None b = None
+append_to (Some v) b = partial_of (v * 10 + (b - 48))
 
 -- the answer for n digits read, which end at next
-unfoldable pub number_from_of : Partial → ℕ → ℕ → Number
-number_from_of p n next = number_when (p.fits && leb 1 n && leb n 20) p.value next
+abbrev pub number_from_of : Option ℕ → ℕ → ℕ → Number
+number_from_of None n next = number_when false 0 next
+number_from_of (Some v) n next = number_when (leb 1 n && leb n 20) v next
 
 -- a number and the octet after it
 unfoldable pub number_text : ℕ → ℕ → List ℕ

@@ -1,5 +1,6 @@
 -- Octets as lower-case hexadecimal digits, two for each octet, the higher first.
-use Rattle.std.specs.Prelude.{Bool, true, cond, ◌&&◌, ◌||◌, List, [], ◌∷◌, ℕ, ◌+◌, ◌*◌, ◌-◌, ◌/◌, ◌%◌, leb, ltb, eqb, length}
+use Rattle.std.specs.Prelude.{Bool, cond, ◌&&◌, ◌||◌, List, [], ◌∷◌, ℕ, ◌+◌, ◌*◌, ◌-◌, ◌/◌, ◌%◌, leb, ltb, eqb, length}
+use Rattle.std.specs.List.{list_all}
 
 -- "0" to "9"
 abbrev pub is_ten : ℕ → Bool
@@ -17,8 +18,7 @@ unfoldable pub hex_value_of : ℕ → ℕ
 hex_value_of b = cond (is_ten b) (b - 48) (cond (is_six b) (b - 87) 0)
 
 unfoldable pub all_hex_of : List ℕ → Bool
-all_hex_of [] = true
-all_hex_of (b ∷ l) = is_hex_of b && all_hex_of l
+all_hex_of = list_all is_hex_of
 
 -- A field of octets: digits alone, and an even number of them; an empty field is no octets
 unfoldable pub is_octets : List ℕ → Bool

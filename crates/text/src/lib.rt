@@ -7,3 +7,4 @@
 pub mod characters;
 pub mod decimal;
 pub mod hex;
+pub mod put;

@@ -2,7 +2,6 @@
 
 #![tactic(auto)]
 
-use check::same;
 use key_traffic::suites::{SUITE_DES, WIDTH_DES};
 use message_attributes::octets::part;
 use message_digest::digest::is_digest_right;
@@ -12,7 +11,7 @@ use message_rules::codes::{
 };
 use message_rules::fields::{Descriptor, Fields, KeyOctets, Params, Place, Receiver};
 use message_writer::write::write;
-use questions::refusal::{Answer, DONE, answer_number};
+use questions::refusal::Answer;
 use std::io::{Print, Stdout};
 
 // What all three messages carry.
@@ -57,20 +56,14 @@ fn put(to: &Stdout, octets: &[u8]) {
 fn say(to: &Stdout, name: &[u8], what: &[u8], is_so: bool) {
     put(to, name);
     put(to, what);
-    if is_so {
-        put(to, b" agrees\n");
-        return;
-    }
-    put(to, b" differs\n");
+    put(to, if is_so { b" agrees\n" } else { b" differs\n" });
 }
 
 // Whether a TEK or a vector has 8 octets, with zeros after them.
 fn has_octets(k: KeyOctets, octets: &[u8]) -> bool {
-    let o = k.octets;
-    if k.width != WIDTH_DES {
-        return false;
-    }
-    same(part(&o, 0, WIDTH_DES), octets) & same(part(&o, WIDTH_DES, WIDTH_DES), b"\0\0\0\0\0\0\0\0")
+    k.width == WIDTH_DES
+        && &k.octets[..WIDTH_DES] == octets
+        && k.octets[WIDTH_DES..].iter().all(|x| *x == 0)
 }
 
 fn is_at(p: Place, start: usize, len: usize) -> bool {
@@ -78,9 +71,7 @@ fn is_at(p: Place, start: usize, len: usize) -> bool {
 }
 
 fn is_empty(p: Params) -> bool {
-    let tek = p.tek;
-    let vector = p.vector;
-    (p.number.0 == 0) & (p.life == 0) & (tek.width == 0) & (vector.width == 0)
+    (p.number.0 == 0) & (p.life == 0) & (p.tek.width == 0) & (p.vector.width == 0)
 }
 
 fn is_zero(d: Descriptor) -> bool {
@@ -89,12 +80,7 @@ fn is_zero(d: Descriptor) -> bool {
 
 // What every message of these carries, and the error, which none does.
 fn compare_head(to: &Stdout, name: &[u8], f: Fields, answer: Answer, code: u8, identifier: u8) {
-    say(
-        to,
-        name,
-        b"answer of the reading",
-        answer_number(answer) == DONE,
-    );
+    say(to, name, b"answer of the reading", answer.is_ok());
     say(to, name, b"code", f.code == code);
     say(to, name, b"identifier", f.identifier == identifier);
     say(to, name, b"authorization key number", f.ak.0 == AK_NUMBER);
@@ -110,28 +96,23 @@ fn compare_params(
     tek: &[u8],
     vector: &[u8],
 ) {
-    let own_tek = p.tek;
-    let own_vector = p.vector;
     say(to, name, b"number", p.number.0 == number);
     say(to, name, b"life", p.life == life);
-    say(to, name, b"TEK", has_octets(own_tek, tek));
-    say(to, name, b"vector", has_octets(own_vector, vector));
+    say(to, name, b"TEK", has_octets(p.tek, tek));
+    say(to, name, b"vector", has_octets(p.vector, vector));
 }
 
 fn compare_no_params(to: &Stdout, name: &[u8], f: Fields) {
-    let older = f.older;
-    let newer = f.newer;
     say(
         to,
         name,
         b"TEK-Parameters (not carried)",
-        is_empty(older) & is_empty(newer),
+        is_empty(f.older) & is_empty(f.newer),
     );
 }
 
 fn compare_no_descriptors(to: &Stdout, name: &[u8], f: Fields) {
-    let all = f.descriptors;
-    let none = is_zero(all[0]) & is_zero(all[1]) & is_zero(all[2]) & is_zero(all[3]);
+    let none = f.descriptors.iter().all(|d| is_zero(*d));
     say(
         to,
         name,
@@ -143,12 +124,10 @@ fn compare_no_descriptors(to: &Stdout, name: &[u8], f: Fields) {
 // Whether the fields are written as `m`, octet for octet, with the digest that `key` gives.
 fn is_written_again(f: Fields, auth_key: &[u8], key: &[u8], m: &[u8]) -> bool {
     let mut out = [0u8; ANSWER_OCTETS];
-    let w = write(f, auth_key, key, &mut out);
-    let answer = w.answer;
-    if answer_number(answer) != DONE {
-        return false;
+    match write(f, auth_key, key, &mut out) {
+        Ok(count) => part(&out, 0, count) == m,
+        Err(_) => false,
     }
-    same(part(&out, 0, w.count), m)
 }
 
 // Its digest holds under the message key of its direction, and not under the other's.
@@ -160,8 +139,7 @@ fn compare_digest(to: &Stdout, name: &[u8], m: &[u8], digest: Place, key: &[u8],
 
 // The one SA-Descriptor of I.4.
 fn compare_descriptor(to: &Stdout, name: &[u8], f: Fields) {
-    let all = f.descriptors;
-    let first = all[0];
+    let first = f.descriptors[0];
     say(
         to,
         name,
@@ -185,7 +163,7 @@ fn compare_descriptor(to: &Stdout, name: &[u8], f: Fields) {
         to,
         name,
         b"other three SA-Descriptors (not carried)",
-        is_zero(all[1]) & is_zero(all[2]) & is_zero(all[3]),
+        f.descriptors[1..].iter().all(|d| is_zero(*d)),
     );
 }
 
@@ -195,11 +173,15 @@ fn compare_descriptor(to: &Stdout, name: &[u8], f: Fields) {
 fn authorization_reply(to: &Stdout, m: &[u8], auth_key: &[u8], down: &[u8]) {
     let name = b"I.4 Authorization Reply: ";
     let r = read_alone(Receiver::Modem, m);
-    let answer = r.answer;
     let f = r.fields;
-    let key = r.key;
-    let digest = r.digest;
-    compare_head(to, name, f, answer, CODE_AUTHORIZATION_REPLY, I4_IDENTIFIER);
+    compare_head(
+        to,
+        name,
+        f,
+        r.answer,
+        CODE_AUTHORIZATION_REPLY,
+        I4_IDENTIFIER,
+    );
     say(to, name, b"life", f.life == I4_LIFE);
     say(to, name, b"SAID (not carried)", f.said == 0);
     compare_descriptor(to, name, f);
@@ -208,19 +190,19 @@ fn authorization_reply(to: &Stdout, m: &[u8], auth_key: &[u8], down: &[u8]) {
         to,
         name,
         b"AUTH-Key's place",
-        is_at(key, I4_AUTH_KEY_START, I4_AUTH_KEY_OCTETS),
+        is_at(r.key, I4_AUTH_KEY_START, I4_AUTH_KEY_OCTETS),
     );
     say(
         to,
         name,
         b"AUTH-Key",
-        same(part(m, key.start, key.len), auth_key),
+        part(m, r.key.start, r.key.len) == auth_key,
     );
     say(
         to,
         name,
         b"digest's place (not carried)",
-        is_at(digest, 0, 0),
+        is_at(r.digest, 0, 0),
     );
     let again = is_written_again(f, auth_key, down, m);
     say(to, name, b"message written again", again);
@@ -257,14 +239,11 @@ fn compare_places(to: &Stdout, name: &[u8], key: Place, digest: Place, at: usize
 fn key_request(to: &Stdout, m: &[u8], standard: &[u8], up: &[u8], down: &[u8]) {
     let name = b"I.5 Key Request: ";
     let r = read_alone(Receiver::HeadEnd, m);
-    let answer = r.answer;
     let f = r.fields;
-    let key = r.key;
-    let digest = r.digest;
-    compare_front(to, name, f, answer, CODE_KEY_REQUEST);
+    compare_front(to, name, f, r.answer, CODE_KEY_REQUEST);
     compare_no_params(to, name, f);
-    compare_places(to, name, key, digest, I5_DIGEST_START);
-    compare_digest(to, name, m, digest, up, down);
+    compare_places(to, name, r.key, r.digest, I5_DIGEST_START);
+    compare_digest(to, name, m, r.digest, up, down);
     let again = is_written_again(f, b"", up, standard);
     say(
         to,
@@ -302,17 +281,12 @@ fn compare_newer(to: &Stdout, p: Params) {
 fn key_reply(to: &Stdout, m: &[u8], up: &[u8], down: &[u8]) {
     let name = b"I.6 Key Reply: ";
     let r = read_alone(Receiver::Modem, m);
-    let answer = r.answer;
     let f = r.fields;
-    let key = r.key;
-    let digest = r.digest;
-    let older = f.older;
-    let newer = f.newer;
-    compare_front(to, name, f, answer, CODE_KEY_REPLY);
-    compare_older(to, older);
-    compare_newer(to, newer);
-    compare_places(to, name, key, digest, I6_DIGEST_START);
-    compare_digest(to, name, m, digest, down, up);
+    compare_front(to, name, f, r.answer, CODE_KEY_REPLY);
+    compare_older(to, f.older);
+    compare_newer(to, f.newer);
+    compare_places(to, name, r.key, r.digest, I6_DIGEST_START);
+    compare_digest(to, name, m, r.digest, down, up);
     let again = is_written_again(f, b"", down, m);
     say(to, name, b"message written again", again);
 }

@@ -1,36 +1,41 @@
--- `print` meets its contract. The invariant: the cursor is steady, and the octets handed on and those of the rows left are all there are.
--- The measure is the number of clock calls left.
-use native.Mathlib.Omega.{arith}
+-- `print` meets its contract.
+use Rattle.std.proofs.Common.{ap, ◌∙◌, arith, length}
+use Rattle.schedule_table.specs.declared.print.Printed.{Printed}
 use Rattle.schedule_table.specs.Schedule.{output_of}
-use Rattle.schedule_table.proofs.PrintLaws.{fill_lowers}
-use Rattle.schedule_io.proofs.HandedLaws.{first, more, handed, last, left_some}
+use Rattle.schedule_io.proofs.HandedLaws.{first, most, handed, fewer, last}
 use Rattle.schedule_io.proofs.print.Goals as goal
 
-pub loop-is_written-init : goal.loop-is_written-init
-loop-is_written-init c = let w = c.write_start-first in
-    first c.args.input.now w.result.cursor w.result.count w.ensures.cursor_value.0 w.ensures.cursor_value.1 w.ensures.count_bound
+pub returns-then-is_err : goal.returns-then-is_err
+returns-then-is_err c =
+    let p = c.start-first in
+    let h = first c.args.input.now p.result.cursor p.result.count (ap (λ (q : Printed). q.cursor) p.ensures.value) (ap (λ (q : Printed). q.count) p.ensures.value) (omega (arith, p.ensures.count_in_bounds.0)) in
+    omega (arith, h.counted)
 
-pub write_more-turn-requires : goal.write_more-turn-requires
-write_more-turn-requires c = let l = c.loop-is_written in
-    (l.invariant.steady, omega (arith, left_some l.cursor l.is_written c.loop-is_written-test.true))
+pub loop-cursor-init : goal.loop-cursor-init
+loop-cursor-init c =
+    let p = c.start-first in
+    (first c.args.input.now p.result.cursor p.result.count (ap (λ (q : Printed). q.cursor) p.ensures.value) (ap (λ (q : Printed). q.count) p.ensures.value) (omega (arith, p.ensures.count_in_bounds.0)), p.auto.out)
 
 pub overflow_add-octets : goal.overflow_add-octets
-overflow_add-octets c = let l = c.loop-is_written in
-    let w = c.write_more-turn in
-    let m = more (output_of c.args.input.now) l.cursor w.result.cursor l.octets w.result.count l.invariant w.ensures.0 w.ensures.1 in
-    record { fits = omega (arith, m, l.invariant.counted, l.invariant.short) }
+overflow_add-octets c =
+    let l = c.loop-cursor in
+    let m = most (output_of c.args.input.now) l.cursor l.octets (length l.out) l.invariant.1 c.fill-more.result l.invariant.0 c.fill-more.ensures.value in
+    record { fits = omega (arith, m, l.invariant.0.short) }
 
-pub loop-is_written-smaller : goal.loop-is_written-smaller
-loop-is_written-smaller c = let l = c.loop-is_written in
-    let w = c.write_more-turn in
-    rw w.ensures.0 (fill_lowers 4096 l.cursor l.invariant.steady (omega arith) (omega (arith, left_some l.cursor l.is_written c.loop-is_written-test.true)))
+pub returns-then-is_err-2 : goal.returns-then-is_err-2
+returns-then-is_err-2 c =
+    let l = c.loop-cursor in
+    most (output_of c.args.input.now) l.cursor l.octets (length l.out) l.invariant.1 c.fill-more.result l.invariant.0 c.fill-more.ensures.value
 
-pub loop-is_written-preserved : goal.loop-is_written-preserved
-loop-is_written-preserved c = let l = c.loop-is_written in
-    let w = c.write_more-turn in
-    handed (output_of c.args.input.now) l.cursor w.result.cursor l.octets w.result.count l.invariant w.ensures.0 w.ensures.1
+pub loop-cursor-smaller : goal.loop-cursor-smaller
+loop-cursor-smaller c =
+    let l = c.loop-cursor in
+    fewer (output_of c.args.input.now) l.cursor l.octets (length l.out) l.invariant.1 c.fill-more.result l.invariant.0 c.fill-more.ensures.value c.loop-cursor-test.true
+
+pub loop-cursor-preserved : goal.loop-cursor-preserved
+loop-cursor-preserved c =
+    let l = c.loop-cursor in
+    (handed (output_of c.args.input.now) l.cursor l.octets (length l.out) l.invariant.1 c.fill-more.result l.invariant.0 c.fill-more.ensures.value, c.fill-more.auto.out ∙ l.invariant.1)
 
 pub returns : goal.returns
-returns c = let l = c.loop-is_written in
-    let text = output_of c.args.input.now in
-    record { most = omega (arith, l.invariant.counted); all = last text l.cursor l.octets l.is_written l.invariant c.loop-is_written-test.false }
+returns c = last (output_of c.args.input.now) c.loop-cursor.cursor c.loop-cursor.octets c.loop-cursor.invariant.0 c.loop-cursor-test.false

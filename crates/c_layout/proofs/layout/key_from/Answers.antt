@@ -4,7 +4,4 @@ use Rattle.c_layout.proofs.layout.key_from.Goals as goal
 
 pub returns : goal.returns
 unfolding key_from_of
-returns c = simp (
-  c.octets-o.ensures,
-  c.octet-width.ensures,
-)
+returns c = simp (c.octets.ensures, c.from.ensures, c.octet.ensures)

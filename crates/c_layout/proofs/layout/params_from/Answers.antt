@@ -5,11 +5,11 @@ use Rattle.c_layout.proofs.layout.params_from.Goals as goal
 pub returns : goal.returns
 unfolding params_from_of
 returns c = simp (
-  c.be32_of.ensures,
-  c.part-3.ensures,
   c.octet.ensures,
-  c.key_from-vector.ensures,
-  c.part-2.ensures,
-  c.key_from-tek.ensures,
+  c.be32_of.ensures,
   c.part.ensures,
+  c.key_from.ensures,
+  c.part-2.ensures,
+  c.key_from-2.ensures,
+  c.part-3.ensures,
 )

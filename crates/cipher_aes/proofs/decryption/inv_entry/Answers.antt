@@ -3,4 +3,4 @@ use Rattle.cipher_aes.proofs.TableLaws.{dec_at}
 use Rattle.cipher_aes.proofs.decryption.inv_entry.Goals as goal
 
 pub returns : goal.returns
-returns c = dec_at c.args.t.now c.args.x c.requires.dec_table c.requires.x_bound
+returns c = rw c.from.ensures (dec_at c.decryption_table.result.now c.args.x c.decryption_table.ensures c.ranges.x.fits)

@@ -1,24 +1,27 @@
--- `encryption::encrypt` meets its contract: x is the State after i rounds.
-use Rattle.cipher_aes.specs.Cipher.{add_round_key_of, round, final_round_of, rounds, cipher}
+-- `encryption::encrypt` meets its contract: x is the State after so many rounds.
+use Rattle.std.proofs.Common.{◌≡◌, refl, ap, ap₂, ◌∙◌, add-one, arith, length-take, length-drop}
+use Rattle.cipher_aes.specs.Cipher.{round, final_round_of, rounds, cipher}
 use Rattle.cipher_aes.specs.Words.{key_at}
-use native.Mathlib.Omega.{arith}
-use native.Mathlib.Numerals.{add-one}
-use mathlib.Core.Path.{◌≡◌, refl, ap₂, ◌∙◌}
+use Rattle.cipher_aes.specs.declared.words.State.{State}
+use Rattle.cipher_aes.proofs.ScheduleLaws.{later_key}
 use Rattle.cipher_aes.proofs.encryption.encrypt.Goals as goal
 
-pub loop-i-init : goal.loop-i-init
+pub loop-key-init : goal.loop-key-init
 unfolding rounds
-loop-i-init c = (omega arith, refl)
+loop-key-init c = refl
 
-pub loop-i-preserved : goal.loop-i-preserved
+pub loop-key-preserved : goal.loop-key-preserved
 unfolding rounds
-loop-i-preserved c = (omega arith, rw add-one (c.round-x.ensures ∙ ap₂ round (rw add-one at c.key_at-in-loop-i.ensures) c.loop-i.invariant.1))
+loop-key-preserved c =
+    let i = c.loop-key.key-index in
+    let w = c.args.keys.now in
+    let k = later_key w i (omega (arith, length-take {A = State}, length-drop {A = State})) in
+    rw add-one (c.round-x.ensures ∙ ap₂ round k c.loop-key.invariant)
 
 pub returns : goal.returns
-unfolding cipher
-returns c = let at-loop = c in
-    let w = key_at c.args.w.now in
-    let n : at-loop.loop-i.i ≡ 9 = omega arith in
+unfolding cipher key_at
+returns c =
+    let w = c.args.keys.now in
+    let n : c.loop-key.key-index ≡ 9 = omega (arith, length-take {A = State}, length-drop {A = State}) in
     c.final_round.ensures
-    ∙ ap₂ final_round_of c.key_at-2.ensures
-    (at-loop.loop-i.invariant.1 ∙ ap₂ (rounds w) n (c.add_round_key-x.ensures ∙ ap₂ add_round_key_of c.key_at.ensures refl))
+    ∙ ap (final_round_of (key_at w 10)) (c.loop-key.invariant ∙ ap₂ (rounds (key_at w)) n c.add_round_key-x.ensures)

@@ -1,8 +1,13 @@
 -- `encryption::shifted` meets its contract: four octets and the key.
-use mathlib.Core.Path.{◌∙◌}
-use Rattle.cipher_aes.proofs.WordLaws.{plain}
+use Rattle.std.proofs.Common.{ap, ◌∙◌}
+use Rattle.cipher_aes.specs.Words.{word}
+use Rattle.cipher_aes.proofs.ColumnLaws.{four}
+use Rattle.cipher_aes.proofs.WordLaws.{plain, word_of_octets}
 use Rattle.cipher_aes.proofs.encryption.shifted.Goals as goal
 
 pub returns : goal.returns
-returns c = plain _ _ _ _ _ _
-    (c.word_of.ensures ∙ simp (c.sub_of-p.ensures.0, c.sub_of-q.ensures.0, c.sub_of-r.ensures.0, c.sub_of-s.ensures.0))
+returns c =
+    plain _ _ _ _ _ _
+    (ap word c.from_be_bytes.ensures ∙ word_of_octets _ _ _ _ c.sub_of.type_inv c.sub_of-2.type_inv c.sub_of-3.type_inv c.sub_of-4.type_inv
+    ∙ four (rw c.to_be_bytes.ensures at c.sub_of.ensures) (rw c.to_be_bytes-2.ensures at c.sub_of-2.ensures)
+    (rw c.to_be_bytes-3.ensures at c.sub_of-3.ensures) (rw c.to_be_bytes-4.ensures at c.sub_of-4.ensures))

@@ -1,19 +1,12 @@
--- `block::store_word` meets its contract: four octets.
-use Rattle.cipher_cbc.proofs.SliceLaws.{four_set}
+-- `block::store_word` meets its contract: four octets stored at once are four stores, one behind the other.
+use Rattle.std.proofs.Common.{◌≡◌, ◌+◌, ◌-◌, ◌∙◌, arith, append_assoc, drop-drop}
+use lib.Seq.{sets-eq}
 use Rattle.cipher_aes.specs.Words.{word}
-use lib.ListN.{length-set}
-use native.Mathlib.Omega.{arith}
 use Rattle.cipher_cbc.proofs.block.store_word.Goals as goal
-
-pub bounds-out-at-2 : goal.bounds-out-at-2
-bounds-out-at-2 c = simp length-set (omega arith)
-
-pub bounds-out-at-3 : goal.bounds-out-at-3
-bounds-out-at-3 c = simp length-set (omega arith)
-
-pub bounds-out-at-4 : goal.bounds-out-at-4
-bounds-out-at-4 c = simp length-set (omega arith)
 
 pub returns : goal.returns
 unfolding word
-returns c = four_set c.args.out.now c.args.at _ _ _ _
+returns c =
+    let e : c.args.at + 4 - c.args.at ≡ 4 = omega arith in
+    let v : c.copy_from_slice.new.self ≡ word c.args.x = c.copy_from_slice.ensures.after ∙ c.to_be_bytes.ensures in
+    rw (e, sets-eq (word c.args.x) c.args.out.now c.args.at c.requires, v, drop-drop, append_assoc)

@@ -16,7 +16,7 @@ pub loop-at-init : goal.loop-at-init
 loop-at-init c = (record { within = search rules; long = refl; rest = refl; done = refl }, refl)
 
 pub loop-at-preserved : goal.loop-at-preserved
-loop-at-preserved c = let w = c.args.w.now in
+loop-at-preserved c = let w = c.args.keys.now in
     let s = c.args.frame.now in
     let o = c.args.out.now in
     let h = c.loop-at-test.true in
@@ -29,7 +29,7 @@ loop-at-preserved c = let w = c.args.w.now in
     )
 
 pub returns : goal.returns
-returns c = let w = c.args.w.now in
+returns c = let w = c.args.keys.now in
     let s = c.args.frame.now in
     let i = c.loop-at.at in
     let m : length s - i < 16 = omega arith in

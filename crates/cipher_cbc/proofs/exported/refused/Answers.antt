@@ -19,6 +19,6 @@ pub returns-then-frame-lt-CLEAR_OCTETS : goal.returns-then-frame-lt-CLEAR_OCTETS
 unfolding refusal_of
 returns-then-frame-lt-CLEAR_OCTETS c = simp (eq-eqb _ _ c.if-key-ne-BLOCK_OCTETS.false, eq-eqb _ _ c.if-vector-ne-BLOCK_OCTETS.false, le-ltb _ _ c.if-out-frame.false, lt-ltb _ _ c.if-frame-lt-CLEAR_OCTETS.true)
 
-pub returns : goal.returns
+pub returns-else-frame-lt-CLEAR_OCTETS : goal.returns-else-frame-lt-CLEAR_OCTETS
 unfolding refusal_of
-returns c = simp (eq-eqb _ _ c.if-key-ne-BLOCK_OCTETS.false, eq-eqb _ _ c.if-vector-ne-BLOCK_OCTETS.false, le-ltb _ _ c.if-out-frame.false, le-ltb _ _ c.if-frame-lt-CLEAR_OCTETS.false)
+returns-else-frame-lt-CLEAR_OCTETS c = simp (eq-eqb _ _ c.if-key-ne-BLOCK_OCTETS.false, eq-eqb _ _ c.if-vector-ne-BLOCK_OCTETS.false, le-ltb _ _ c.if-out-frame.false, le-ltb _ _ c.if-frame-lt-CLEAR_OCTETS.false)

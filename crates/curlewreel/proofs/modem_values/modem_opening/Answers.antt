@@ -3,4 +3,4 @@ use Rattle.curlewreel.proofs.ModemCallLaws.{opened}
 use Rattle.curlewreel.proofs.modem_values.modem_opening.Goals as goal
 
 pub returns : goal.returns
-returns c = opened c.args.c _ c.answer_number-number.ensures
+returns c = opened c.args.c _ c.answer_number.ensures

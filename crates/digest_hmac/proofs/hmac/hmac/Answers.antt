@@ -9,7 +9,7 @@ pub returns-then-key-le-BLOCK_OCTETS : goal.returns-then-key-le-BLOCK_OCTETS
 unfolding hmac used_key
 returns-then-key-le-BLOCK_OCTETS c = rw (le-leb (length c.args.key.now) 64 (omega arith)) c.block_hmac.ensures
 
-pub returns : goal.returns
+pub returns-else-key-le-BLOCK_OCTETS : goal.returns-else-key-le-BLOCK_OCTETS
 unfolding hmac used_key
-returns c = rw (lt-leb (length c.args.key.now) 64 (omega arith))
-    (simp (c.octets-k.ensures, c.sha1.ensures) at c.block_hmac-2.ensures)
+returns-else-key-le-BLOCK_OCTETS c = rw (lt-leb (length c.args.key.now) 64 (omega arith))
+    (simp (c.octets.ensures, c.sha1.ensures) at c.block_hmac-else-key-le-BLOCK_OCTETS.ensures)

@@ -1,14 +1,9 @@
--- `keys::key_block` meets its contract: the first i octets are those of the key with pad, pad follows.
-use mathlib.Core.Path.{◌≡◌}
-use mathlib.Core.List.{◌++◌}
-use Prim.Native.Nat.{◌-◌, ◌≤◌}
-use lib.ListN.{length, take, replicate}
-use Rattle.digest_hmac.proofs.KeyLaws.{padded}
+-- `keys::key_block` meets its contract: the first octets of the block have the pad, the others are as they were.
+use Rattle.std.proofs.Common.{◌≡◌, ◌-◌, ◌++◌, length, map, take, drop, replicate}
+use Rattle.digest_sha1.specs.Words.{◌⊕◌}
 use Rattle.digest_hmac.proofs.keys.key_block.Given as goal
 
-abbrev pub invariant-loop-i : goal.invariant-loop-i
-invariant-loop-i l = (l.i ≤ l.n) × (l.n ≡ length l.key) × (length l.key ≤ 64) × (l.b ≡ padded
-    (take l.i l.key) l.pad ++ replicate (64 - l.i) l.pad)
-
-abbrev pub decreases-loop-i : goal.decreases-loop-i
-decreases-loop-i l = l.n - l.i
+abbrev pub invariant-loop-x : goal.invariant-loop-x
+invariant-loop-x l =
+    l.x-items ≡ map (λ x. x ⊕ l.pad) (take l.x-index (l.key ++ replicate (64 - length l.key) 0))
+    ++ drop l.x-index (l.key ++ replicate (64 - length l.key) 0)

@@ -1,62 +1,46 @@
--- `compress::compress` meets its contract: s is the definition's after t rounds; from round 20 on `Upto`, with the words made so far.
-use Rattle.std.proofs.Common.{◌≡◌, refl, arith}
-use Rattle.digest_sha1.specs.Sha1.{rounds, compress}
-use Rattle.digest_sha1.proofs.RoundLaws.{more1, more2, more3, more4}
+-- `compress::compress` meets its contract: the first rounds one by one, then a quarter at a time.
+use Rattle.std.proofs.Common.{◌≡◌, ◌<◌, ◌∙◌, refl, arith, take, get_or, get_or-take, length-take}
+use Rattle.digest_sha1.specs.Sha1.{rounds, compress, Upto}
+use Rattle.digest_sha1.proofs.RoundLaws.{more1, second, third, fourth}
 use Rattle.digest_sha1.proofs.ScheduleLaws.{first_word}
 use Rattle.digest_sha1.proofs.compress.compress.Goals as goal
 
-pub loop-t-init : goal.loop-t-init
+pub loop-x-init : goal.loop-x-init
 unfolding rounds
-loop-t-init c = (omega arith, refl)
+loop-x-init c = refl
 
-pub loop-t-preserved : goal.loop-t-preserved
-loop-t-preserved c = (
-  omega arith,
-  more1 _ _ _ _ _ _ _ c.loop-t.invariant.1 (omega arith) (first_word _
-      c.first_words-w.result _
-      c.first_words-w.ensures (omega arith)) c.ch.ensures
-      c.round-s.ensures,
-)
+pub loop-x-preserved : goal.loop-x-preserved
+loop-x-preserved c =
+    let i = c.loop-x.x-index in
+    let w = c.first_words-w.result in
+    let low : i < 20 = omega (arith, length-take 20 w) in
+    let is : get_or (take 20 w) i 0 ≡ get_or w i 0 = get_or-take 20 w i 0 low in
+    more1 c.args.b.now c.args.h _ _ i _ _ c.loop-x.invariant low (rw is (first_word c.args.b.now w i c.first_words-w.ensures low)) c.ch.ensures c.round-s.ensures
 
-pub loop-t-2-init : goal.loop-t-2-init
-loop-t-2-init c = let e : c.loop-t.t ≡ 20 = omega arith in
-    (omega arith, omega arith, record { long = omega arith; words = c.first_words-w.ensures; vars = rw e at c.loop-t.invariant.1 })
+pub quarter-s-requires-clause-function : goal.quarter-s-requires-clause-function
+quarter-s-requires-clause-function c = λ t x y z r lo hi e. e ∙ (second t x y z lo hi).0
 
-pub loop-t-2-preserved : goal.loop-t-2-preserved
-loop-t-2-preserved c = (
-  omega arith,
-  omega arith,
-  more2 _ _ _ _ _ _ _ _ c.loop-t-2.invariant.2
-      c.next_word-x.ensures (omega arith) (omega arith) c.parity.ensures c.round-s-in-loop-t-2.ensures,
-)
+pub quarter-s-requires-clause-constant : goal.quarter-s-requires-clause-constant
+quarter-s-requires-clause-constant c = λ t lo hi. (second t 0 0 0 (omega arith) (omega arith)).1
 
-pub loop-t-3-init : goal.loop-t-3-init
-loop-t-3-init c = let e : c.loop-t-2.t ≡ 40 = omega arith in
-    (omega arith, omega arith, rw e at c.loop-t-2.invariant.2)
+pub quarter-s-requires-2-clause-function : goal.quarter-s-requires-2-clause-function
+quarter-s-requires-2-clause-function c = λ t x y z r lo hi e. e ∙ (third t x y z lo hi).0
 
-pub loop-t-3-preserved : goal.loop-t-3-preserved
-loop-t-3-preserved c = (
-  omega arith,
-  omega arith,
-  more3 _ _ _ _ _ _ _ _ c.loop-t-3.invariant.2
-      c.next_word-x-in-loop-t-3.ensures (omega arith) (omega arith) c.maj.ensures c.round-s-in-loop-t-3.ensures,
-)
+pub quarter-s-requires-2-clause-constant : goal.quarter-s-requires-2-clause-constant
+quarter-s-requires-2-clause-constant c = λ t lo hi. (third t 0 0 0 (omega arith) (omega arith)).1
 
-pub loop-t-4-init : goal.loop-t-4-init
-loop-t-4-init c = let e : c.loop-t-3.t ≡ 60 = omega arith in
-    (omega arith, omega arith, rw e at c.loop-t-3.invariant.2)
+pub quarter-s-requires-3-clause-function : goal.quarter-s-requires-3-clause-function
+quarter-s-requires-3-clause-function c = λ t x y z r lo hi e. e ∙ (fourth t x y z lo).0
 
-pub loop-t-4-preserved : goal.loop-t-4-preserved
-loop-t-4-preserved c = (
-  omega arith,
-  omega arith,
-  more4 _ _ _ _ _ _ _ _ c.loop-t-4.invariant.2
-      c.next_word-x-in-loop-t-4.ensures (omega arith) (omega arith) c.parity-in-loop-t-4.ensures c.round-s-in-loop-t-4.ensures,
-)
+pub quarter-s-requires-3-clause-constant : goal.quarter-s-requires-3-clause-constant
+quarter-s-requires-3-clause-constant c = λ t lo hi. (fourth t 0 0 0 (omega arith)).1
 
 pub returns : goal.returns
 unfolding compress
-returns c = let e : c.loop-t-4.t ≡ 80 = omega arith in
-    let s = rw e at c.loop-t-4.invariant.2.vars in
-    let a = c.added.ensures in
-    rw (← s) a
+returns c =
+    let b = c.args.b.now in
+    let h = c.args.h in
+    let i : c.loop-x.x-index ≡ 20 = omega (arith, length-take 20 c.first_words-w.result) in
+    let first : Upto b h c.first_words-w.result c.loop-x.s 20 = record { long = omega arith; words = c.first_words-w.ensures; vars = rw i at c.loop-x.invariant } in
+    let all = c.quarter-s-3.ensures b h (c.quarter-s-2.ensures b h (c.quarter-s.ensures b h first)) in
+    rw (← all.vars) c.added.ensures

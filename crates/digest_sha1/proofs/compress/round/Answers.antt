@@ -1,13 +1,6 @@
--- `compress::round` meets its contract: rewriting with what each call says.
-
+-- `compress::round` meets its contract: rewriting with what each rotation says.
+use mathlib.Core.Path.{refl}
 use Rattle.digest_sha1.proofs.compress.round.Goals as goal
 
 pub returns : goal.returns
-returns c = simp (
-  c.rotl30.ensures,
-  c.plus-4.ensures,
-  c.plus-3.ensures,
-  c.plus-2.ensures,
-  c.plus.ensures,
-  c.rotl5.ensures,
-)
+returns c = rw (c.rotate_left.ensures, c.rotate_left-2.ensures) refl

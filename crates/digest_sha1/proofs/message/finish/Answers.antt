@@ -1,29 +1,28 @@
--- `message::finish` meets its contract: g is the hash value after i blocks.
-use Rattle.std.proofs.Common.{refl, arith}
-use Rattle.digest_sha1.specs.Sha1.{blocks}
-use Rattle.digest_sha1.proofs.BlockLaws.{one_more, part_length, rest_length, finished}
+-- `message::finish` meets its contract: a block, and then what is left.
+use Rattle.std.proofs.Common.{◌≡◌, ◌<◌, ◌++◌, length, arith}
+use Rattle.digest_sha1.proofs.BlockLaws.{rest_of, finish_step, rest_step, rest_end, rest_is}
 use Rattle.digest_sha1.proofs.message.finish.Goals as goal
 
-pub loop-i-init : goal.loop-i-init
-unfolding blocks
-loop-i-init c = (omega arith, refl, refl)
+pub loop-block-init : goal.loop-block-init
+loop-block-init c =
+    let e : c.into_iter-block-iterator.result.rest.now ≡ c.args.m.now = cc in
+    let r : c.remainder-rest.result.now ≡ rest_of c.args.m.now = cc (rest_is c.args.m.now) in
+    record { size = cc; same = rw e; rest = rw e r }
 
-pub compress-g-requires : goal.compress-g-requires
-compress-g-requires c = part_length c.args.m.now c.loop-i.i (omega arith)
-
-pub loop-i-preserved : goal.loop-i-preserved
-loop-i-preserved c = (
-  omega arith,
-  refl,
-  one_more _ _ _ c.args.m.now
-      c.loop-i.i c.loop-i.invariant.2 c.compress-g.ensures,
-)
-
-pub last_blocks-requires : goal.last_blocks-requires
-last_blocks-requires c = rest_length c.args.m.now c.args.n
-    c.requires
+pub loop-block-preserved : goal.loop-block-preserved
+loop-block-preserved c =
+    let block = c.in-Some.block.now in
+    let left = c.next.new.self.rest.now in
+    let split : c.loop-block.block-iterator.rest.now ≡ block ++ left = c.in-Some.ensures.steps.1.0 in
+    let long : length block ≡ 64 = cc (c.in-Some.ensures.steps.1.1) in
+    record {
+      size = cc;
+      same = rw (c.compress-g.ensures, finish_step c.loop-block.g block left c.args.n long, ← split) c.loop-block.invariant.same;
+      rest = rw (← rest_step block left long, ← split) c.loop-block.invariant.rest;
+    }
 
 pub returns : goal.returns
-returns c = finished _ _ _ c.args.m.now
-    c.args.n c.loop-i.i (omega arith)
-    c.loop-i.invariant.2 c.last_blocks.ensures
+returns c =
+    let left = c.loop-block.block-iterator.rest.now in
+    let short : length left < 64 = omega (arith, c.in-None.ensures.steps.1.0) in
+    cc (rest_end left short)

@@ -1,10 +1,12 @@
--- `message::finish` meets its contract: g is the hash value after i blocks.
-use Rattle.std.proofs.Common.{◌≡◌, ◌-◌, ◌/◌, ◌≤◌, length}
-use Rattle.digest_sha1.specs.Sha1.{blocks}
+-- `message::finish` meets its contract: `g` finishes what is left to the same hash, and `rest` is what fills no block of it.
+use Rattle.std.proofs.Common.{◌≡◌}
+use Rattle.digest_sha1.specs.Sha1.{finish}
+use Rattle.digest_sha1.proofs.BlockLaws.{rest_of}
 use Rattle.digest_sha1.proofs.message.finish.Given as goal
 
-abbrev pub invariant-loop-i : goal.invariant-loop-i
-invariant-loop-i l = (l.i ≤ l.whole) × (l.whole ≡ length l.m / 64) × (l.g ≡ blocks l.initial.g l.m l.i)
-
-abbrev pub decreases-loop-i : goal.decreases-loop-i
-decreases-loop-i l = l.whole - l.i
+abbrev pub invariant-loop-block : goal.invariant-loop-block
+invariant-loop-block l = record {
+  size : l.block-iterator.size ≡ 64;
+  same : finish l.g l.block-iterator.rest.now l.n ≡ finish l.fn.h l.fn.m l.n;
+  rest : l.rest ≡ rest_of l.block-iterator.rest.now;
+}

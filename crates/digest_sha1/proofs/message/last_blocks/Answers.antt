@@ -17,14 +17,14 @@ returns-then-s-lt-LENGTH_START c = let h = c.args.h in
       ← w,
     ) r
 
-pub returns : goal.returns
-returns c = let h = c.args.h in
+pub returns-else-s-lt-LENGTH_START : goal.returns-else-s-lt-LENGTH_START
+returns-else-s-lt-LENGTH_START c = let h = c.args.h in
     let s = c.args.s.now in
     let l : 56 ≤ length s = omega arith in
     let b = c.marked-b.ensures in
-    let w = c.with_length-2.ensures in
+    let w = c.with_length-else-s-lt-LENGTH_START.ensures in
     let g = c.compress-g.ensures in
-    let r = c.compress-2.ensures in
+    let r = c.compress-else-s-lt-LENGTH_START.ensures in
     rw (
       ← finish_long h s c.args.n
           c.requires l,

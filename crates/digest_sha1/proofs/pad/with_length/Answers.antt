@@ -1,10 +1,13 @@
--- `pad::with_length` meets its contract: each octet that is stored is that of the length in bits.
-use Rattle.std.proofs.Common.{arith}
-use Rattle.digest_sha1.proofs.PadLaws.{with_octets}
+-- `pad::with_length` meets its contract: what is stored ends the block, and is the length in bits.
+use Rattle.std.proofs.Common.{◌≡◌, ◌*◌, ◌∙◌, ◌≤◌, [], length, drop, arith, drop-drop, drop_of_length-le, append-nil}
+use Rattle.digest_sha1.specs.Sha1.{octets8}
+use Rattle.digest_sha1.proofs.PadLaws.{length_octets}
 use Rattle.digest_sha1.proofs.pad.with_length.Goals as goal
 
 pub returns : goal.returns
-returns c = let start = c in
-    rw (c.put_word-2.ensures, c.put_word.ensures)
-    (with_octets start.args.block start.args.n _ _ _ _ _ _ _ _ (omega arith) (omega arith) (omega arith) (omega arith)
-    (omega arith) (omega arith) (omega arith) (omega arith) (omega arith))
+returns c =
+    let v : c.copy_from_slice.new.self ≡ octets8 (8 * c.args.n)
+    = c.copy_from_slice.ensures.after ∙ c.to_be_bytes.ensures ∙ length_octets c.args.n in
+    let fits : length c.args.block ≤ 64 = omega arith in
+    let over : drop 64 c.args.block ≡ [] = drop_of_length-le c.args.block fits in
+    rw (v, drop-drop, over, append-nil)

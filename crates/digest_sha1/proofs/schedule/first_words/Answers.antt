@@ -6,28 +6,22 @@ use Rattle.digest_sha1.proofs.schedule.first_words.Goals as goal
 
 pub loop-t-init : goal.loop-t-init
 unfolding schedule
-loop-t-init c = (omega arith, refl, refl)
+loop-t-init c = (refl, refl)
 
 pub loop-t-preserved : goal.loop-t-preserved
 loop-t-preserved c = (
-  omega arith,
-  simp length-set c.loop-t.invariant.1,
-  word_more _ _ _ _ (omega arith)
-      c.loop-t.invariant.2 (omega arith) c.word.ensures,
+  simp length-set c.loop-t.invariant.0,
+  word_more c.args.b.now c.loop-t.w c.loop-t.t _ (omega arith) c.loop-t.invariant.1 (omega arith) c.word.ensures,
 )
 
 pub loop-t-2-init : goal.loop-t-2-init
-loop-t-2-init c = let e : c.loop-t.t ≡ 16 = omega arith in
-    (omega arith, omega arith, c.loop-t.invariant.1, rw e at c.loop-t.invariant.2)
+loop-t-2-init c = let e : c.loop-t.t ≡ 16 = omega arith in (c.loop-t.invariant.0, rw e at c.loop-t.invariant.1)
 
 pub loop-t-2-preserved : goal.loop-t-2-preserved
 loop-t-2-preserved c = (
-  omega arith,
-  omega arith,
-  simp length-set c.loop-t-2.invariant.2,
-  next_more _ _ _ _
-      (omega arith) c.loop-t-2.invariant.3 (omega arith) c.next_word.ensures,
+  simp length-set c.loop-t-2.invariant.0,
+  next_more c.args.b.now c.loop-t-2.w c.loop-t-2.t _ (omega arith) c.loop-t-2.invariant.1 (omega arith) c.next_word.ensures,
 )
 
 pub returns : goal.returns
-returns c = let e : c.loop-t-2.t ≡ 20 = omega arith in rw e at c.loop-t-2.invariant.3
+returns c = let e : c.loop-t-2.t ≡ 20 = omega arith in rw e at c.loop-t-2.invariant.1

@@ -1,22 +1,11 @@
--- `words::put_word` meets its contract: four stores, one behind the other.
-use Rattle.std.proofs.Common.{◌≡◌, suc, ◌+◌, arith, length-set}
+-- `words::put_word` meets its contract: four octets stored at once are four stores, one behind the other.
+use Rattle.std.proofs.Common.{◌≡◌, ◌+◌, ◌-◌, ◌∙◌, arith, append_assoc, drop-drop}
+use lib.Seq.{sets-eq}
+use Rattle.digest_sha1.specs.Sha1.{octets4}
 use Rattle.digest_sha1.proofs.words.put_word.Goals as goal
 
-pub bounds-out-at-2 : goal.bounds-out-at-2
-bounds-out-at-2 c = simp length-set (omega arith)
-
-pub bounds-out-at-3 : goal.bounds-out-at-3
-bounds-out-at-3 c = simp length-set (omega arith)
-
-pub bounds-out-at-4 : goal.bounds-out-at-4
-bounds-out-at-4 c = simp length-set (omega arith)
-
-pub shape_of-out : goal.shape_of-out
-shape_of-out c = simp length-set
-
 pub returns : goal.returns
-returns c = let at = c.args.at in
-    let one : at + 1 ≡ suc at = omega arith in
-    let two : at + 2 ≡ suc (suc at) = omega arith in
-    let three : at + 3 ≡ suc (suc (suc at)) = omega arith in
-    rw (one, two, three)
+returns c =
+    let e : c.args.at + 4 - c.args.at ≡ 4 = omega arith in
+    let v : c.copy_from_slice.new.self ≡ octets4 c.args.x = c.copy_from_slice.ensures.after ∙ c.to_be_bytes.ensures in
+    rw (e, sets-eq (octets4 c.args.x) c.args.out.now c.args.at c.requires, v, drop-drop, append_assoc)

@@ -1,17 +1,20 @@
--- `frame_octets::framed::frame_answer` meets its contract: each question as asked, the first last.
-use mathlib.Core.Path.{◌≡◌, refl}
-use mathlib.Core.Bool.{Bool, cond}
-use Rattle.questions.specs.declared.refusal.Answer.{Answer}
-use Rattle.questions.specs.declared.refusal.Answer.TheVariants.{Refused}
-use Rattle.questions.specs.declared.refusal.Refusal.TheVariants.{OutOfLimits, WrongLength, ShortFrame, UnknownSaid}
-use Rattle.frame_octets.specs.Framed.{frame_asked_of}
+-- `frame_octets::framed::frame_answer` meets its contract: the lengths (2) are asked before the 12 octets (15), and those before the SAID (10).
+use mathlib.Core.Path.{ap, ◌∙◌}
+use Rattle.std.specs.Prelude.{Err}
+use Rattle.std.proofs.lemmas.Result.{err_from_is_err_and}
+use Rattle.questions.specs.declared.refusal.Refusal.TheVariants.{WrongLength, ShortFrame}
+use Rattle.frame_octets.proofs.FramedLaws.{asked_yes, asked_no, refused_2, refused_15}
 use Rattle.frame_octets.proofs.framed.frame_answer.Goals as goal
 
-in_order : (q1 q2 q15 q10 : Bool) (later a10 a15 a2 a : Answer) → a10 ≡ cond q10 later (Refused UnknownSaid) → a15 ≡ cond q15 a10 (Refused ShortFrame)
-    → a2 ≡ cond q2 a15 (Refused WrongLength) → a ≡ cond q1 a2 (Refused OutOfLimits) → a ≡ frame_asked_of q1 q2 q15 q10 later
-in_order q1 q2 q15 q10 later a10 a15 a2 a h10 h15 h2 h1 = rw (h1, h2, h15, h10) refl
+pub returns-in_err-ask-2 : goal.returns-in_err-ask-2
+returns-in_err-ask-2 c = let a = c.args in
+    let q = asked_no a.q2 WrongLength _ c.in_err-ask-2.ensures in
+    let p = err_from_is_err_and c.from_residual-in_err-ask-2.result c.from_residual-in_err-ask-2.ensures.1 in
+    p.1 ∙ ap Err (p.2 ∙ q.1) ∙ refused_2 a.q1 a.q2 a.q15 a.q10 a.later (asked_yes _ _ c.in_ok-ask.ensures) q.0
 
-pub returns : goal.returns
-returns c = let q = c.args in
-    in_order q.q1 q.q2 q.q15 q.q10 q.later _ _ _ _ c.ask-a10.ensures c.ask-a15.ensures
-    c.ask-a2.ensures c.ask.ensures
+pub returns-in_err-ask-3 : goal.returns-in_err-ask-3
+returns-in_err-ask-3 c = let a = c.args in
+    let q = asked_no a.q15 ShortFrame _ c.in_err-ask-3.ensures in
+    let p = err_from_is_err_and c.from_residual-in_err-ask-3.result c.from_residual-in_err-ask-3.ensures.1 in
+    p.1 ∙ ap Err (p.2 ∙ q.1)
+    ∙ refused_15 a.q1 a.q2 a.q15 a.q10 a.later (asked_yes _ _ c.in_ok-ask.ensures) (asked_yes _ _ c.in_ok-ask-2.ensures) q.0

@@ -1,27 +1,28 @@
--- `headend_frames::frames::open_called` meets its contract.
+-- `headend_frames::frames::open_called` meets its contract: the passed questions give what writing asks.
 use mathlib.Core.Bool.{Bool}
 use mathlib.Core.Path.{◌∙◌, ap}
 use lib.ListN.{length}
+use Rattle.questions.specs.Refusal.{answer_number_of}
 use Rattle.headend_frames.specs.FrameQuestions.{open_answer_of}
-use Rattle.headend_frames.specs.Frames.{opened_with}
-use Rattle.headend_frames.proofs.FrameCallLaws.{openable, open_as}
+use Rattle.headend_frames.proofs.FrameCallLaws.{openable}
 use Rattle.headend_frames.proofs.frames.open_called.Goals as goal
 
-pub open_by-requires : goal.open_by-requires
-open_by-requires c =
+pub put_opened-count-requires : goal.put_opened-count-requires
+put_opened-count-requires c =
     let x = c.args in
     -- the answer, with the key's length as the definition asks it
-    let asked = c.open_answer-a.ensures
-    ∙ ap (λ (b : Bool). open_answer_of x.h x.bad x.len x.s x.direction x.address x.said x.number b (length x.tek.now) (length x.vector.now) (length x.invalid.now)) c.message_key_fits.ensures in
-    openable x.h x.bad x.len x.s x.address x.said x.direction x.number x.write_key.now (length x.tek.now) (length x.vector.now) (length x.invalid.now)
-    c.open_answer-a.result asked
+    let asked = c.open_answer.ensures
+    ∙ ap (λ (b : Bool). open_answer_of x.h x.r.bad x.r.len x.r.found x.f.direction x.f.address x.f.said x.f.number b (length x.tek.now) (length x.vector.now) (length x.invalid.now)) c.message_key_fits-keys.ensures in
+    let ready = openable x.h x.r.bad x.r.len x.r.found x.f.address x.f.said x.f.direction x.f.number x.write_key.now (length x.tek.now) (length x.vector.now) (length x.invalid.now)
+    c.open_answer.result asked in
+    let room = ready.key (ap answer_number_of c.in-Ok.is) in
+    (c.width-wide.ensures.1, room.0, room.1)
 
-pub returns : goal.returns
-unfolding opened_with
-returns c =
+pub unopened-requires : goal.unopened-requires
+unopened-requires c =
     let x = c.args in
-    -- the answer, with the key's length as the definition asks it
-    let asked = c.open_answer-a.ensures
-    ∙ ap (λ (b : Bool). open_answer_of x.h x.bad x.len x.s x.direction x.address x.said x.number b (length x.tek.now) (length x.vector.now) (length x.invalid.now)) c.message_key_fits.ensures in
-    open_as x.h x.s x.address x.said x.number x.write_key.now x.tek.now x.vector.now x.invalid.now c.open_answer-a.result _ asked
-    c.open_by.result _ _ _ c.open_by.ensures
+    let asked = c.open_answer.ensures
+    ∙ ap (λ (b : Bool). open_answer_of x.h x.r.bad x.r.len x.r.found x.f.direction x.f.address x.f.said x.f.number b (length x.tek.now) (length x.vector.now) (length x.invalid.now)) c.message_key_fits-keys.ensures in
+    let ready = openable x.h x.r.bad x.r.len x.r.found x.f.address x.f.said x.f.direction x.f.number x.write_key.now (length x.tek.now) (length x.vector.now) (length x.invalid.now)
+    c.open_answer.result asked in
+    λ e. ready.invalid_fits (ap answer_number_of c.in-Err.is ∙ e)

@@ -1,8 +1,6 @@
 -- `headend_state::authorization::granted` meets its contract.
-use mathlib.Core.Path.{◌∙◌, ap}
-use Prim.Native.Nat.{◌+◌}
+use mathlib.Core.Path.{◌∙◌}
 use native.Mathlib.Omega.{arith}
-use Rattle.key_traffic.specs.declared.numbers.AkNumber.{AkNumber}
 use Rattle.headend_state.proofs.AuthorizationLaws.{two_active, one_active, none_active}
 use Rattle.headend_state.proofs.authorization.granted.Goals as goal
 
@@ -12,10 +10,8 @@ returns-then-clock-k c = let x = c.args in
 
 pub returns-then-clock-k-2 : goal.returns-then-clock-k-2
 returns-then-clock-k-2 c = let x = c.args in
-    ap (λ (n : AkNumber). record { next = n; older = x.k.newer; newer = x.k.newer + x.life }) c.ak_after-next.ensures
-    ∙ one_active x.life x.clock x.k c.if-clock-k.false c.if-clock-k-2.true
+    c.with_key.ensures ∙ one_active x.life x.clock x.k c.if-clock-k.false c.if-clock-k-2.true
 
-pub returns : goal.returns
-returns c = let x = c.args in
-    ap (λ (n : AkNumber). record { next = n; older = x.k.newer; newer = x.clock + x.life }) c.ak_after-next.ensures
-    ∙ none_active x.life x.clock x.k c.if-clock-k.false c.if-clock-k-2.false
+pub returns-else-clock-k-2 : goal.returns-else-clock-k-2
+returns-else-clock-k-2 c = let x = c.args in
+    c.with_key-else-clock-k-2.ensures ∙ none_active x.life x.clock x.k c.if-clock-k.false c.if-clock-k-2.false

@@ -7,6 +7,6 @@ use Rattle.headend_state.proofs.authorization.is_active.Goals as goal
 
 pub returns : goal.returns
 returns c = let x = c.args in
-    let first = c.same_ak.ensures ∙ ap (λ (n : AkNumber). same_ak_of n x.number) c.ak_after.ensures in
-    let second = c.same_ak-2.ensures ∙ ap (λ (n : AkNumber). same_ak_of n x.number) c.ak_after-2.ensures in
+    let first = c.eq.ensures ∙ ap (λ (n : AkNumber). same_ak_of n x.number) c.ak_after.ensures in
+    let second = c.eq-2.ensures ∙ ap (λ (n : AkNumber). same_ak_of n x.number) c.ak_after-2.ensures in
     active_by x.clock x.k x.number _ _ first second

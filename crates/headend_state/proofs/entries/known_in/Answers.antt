@@ -1,36 +1,29 @@
--- `headend_state::entries::known_in` meets its contract.
-use mathlib.Core.Path.{refl, ◌∙◌}
-use borrow.Author.Tests.{eq-eqb, ne_eqb}
-use Prim.Native.Nat.{◌<◌}
+-- `headend_state::entries::known_in` meets its contract: what the search over the first few answers is what the definition finds.
+use mathlib.Core.Path.{◌≡◌, ◌∙◌, ap}
+use mathlib.Core.Bool.{true, false}
+use Prim.Native.Nat.{ℕ}
 use native.Mathlib.Omega.{arith}
-use lib.ListN.{take}
-use Rattle.headend_state.specs.Entries.{in_use_of}
-use Rattle.headend_state.proofs.EntriesLaws.{in_use_length, behind, known_hit, known_miss, known_end}
+use lib.Dec.{eqb}
+use borrow.Author.Rules.{rules}
+use borrow.Author.Tests.{tests}
+use Rattle.std.proofs.lemmas.Iterator.{YieldsList-from_slice, YieldsList-from_take, IsFirst-from_position}
+use Rattle.std.proofs.lemmas.Option.{MatchOption-at_none, MatchOption-at_some}
+use Rattle.headend_state.specs.State.{no_entry_of}
+use Rattle.headend_state.specs.Entries.{known_none_of}
+use Rattle.headend_state.proofs.EntriesLaws.{known_found, known_missed}
 use Rattle.headend_state.proofs.entries.known_in.Goals as goal
 
-pub loop-i-init : goal.loop-i-init
-loop-i-init c = (omega arith, refl)
+pub returns-in-Some : goal.returns-in-Some
+returns-in-Some c = let a = c.args in
+    let first = IsFirst-from_position _ _ _ (λ e. eqb e.address a.address ≡ true) (λ e. eqb e.address a.address ≡ false) c.position.ensures.ran
+    (YieldsList-from_take a.modems (YieldsList-from_slice a.entries cc) cc)
+    (λ x q k. search (rules, tests)) (λ x q k. search (rules, tests)) in
+    known_found a.modems a.entries (omega arith) a.address _ c.in-Some.at (MatchOption-at_some _ _ c.in-Some.at c.in-Some.is first)
 
-pub returns-then-e-address : goal.returns-then-e-address
-returns-then-e-address c = let a = c.args in
-    let l = c.loop-i in
-    let small : l.i < in_use_of a.modems = omega (arith, c.in_use-n.ensures.0, c.loop-i-test.true) in
-    c.known_here.ensures
-    ∙ known_hit (take a.modems a.entries) l.i _ (behind a.modems a.entries (omega arith) l.i _ small) a.address l.invariant.1 (eq-eqb _ _ c.if-e-address.true)
-
-pub loop-i-smaller : goal.loop-i-smaller
-loop-i-smaller c = omega (arith, c.in_use-n.ensures.0, c.loop-i-test.true)
-
-pub loop-i-preserved : goal.loop-i-preserved
-loop-i-preserved c = let a = c.args in
-    let l = c.loop-i in
-    let small : l.i < in_use_of a.modems = omega (arith, c.in_use-n.ensures.0, c.loop-i-test.true) in (
-      omega arith,
-      known_miss (take a.modems a.entries) l.i _ (behind a.modems a.entries (omega arith) l.i _ small) a.address l.invariant.1 (ne_eqb _ _ c.if-e-address.false),
-    )
-
-pub returns : goal.returns
-returns c = let a = c.args in
-    let l = c.loop-i in
-    c.known_none.ensures
-    ∙ known_end (take a.modems a.entries) l.i (omega (arith, in_use_length a.modems a.entries (omega arith), l.invariant.0, c.loop-i-test.false, c.in_use-n.ensures.0)) a.address l.invariant.1
+pub returns-in-None : goal.returns-in-None
+returns-in-None c = let a = c.args in
+    let first = IsFirst-from_position _ _ _ (λ e. eqb e.address a.address ≡ true) (λ e. eqb e.address a.address ≡ false) c.position.ensures.ran
+    (YieldsList-from_take a.modems (YieldsList-from_slice a.entries cc) cc)
+    (λ x q k. search (rules, tests)) (λ x q k. search (rules, tests)) in
+    rw c.no_entry.ensures
+    (ap (λ (n : ℕ). known_none_of n) c.in_use.ensures.0 ∙ known_missed a.modems a.entries (omega arith) a.address (no_entry_of) (MatchOption-at_none _ _ c.in-None.is first))

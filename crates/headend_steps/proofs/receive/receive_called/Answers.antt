@@ -5,10 +5,8 @@ use mathlib.Core.List.{List}
 use Prim.Native.Nat.{ℕ}
 use lib.ListN.{length}
 use borrow.Author.Tests.{eqb-true}
-use Rattle.questions.specs.declared.refusal.Answer.{Answer}
-use Rattle.questions.specs.declared.refusal.Answer.TheVariants.{Done}
+use Rattle.questions.specs.Answer.{Answer, Done}
 use Rattle.key_traffic.specs.Octets.{overlay}
-use Rattle.questions.proofs.AnswerLaws.{is-done}
 use Rattle.questions.proofs.TestLaws.{both}
 use Rattle.key_association.specs.declared.search.Found.{Found}
 use Rattle.message_rules.specs.declared.fields.Reading.{Reading}
@@ -19,7 +17,7 @@ use Rattle.headend_answers.specs.declared.answers.Reaction.{Reaction}
 use Rattle.headend_state.specs.Entries.{known_of}
 use Rattle.headend_answers.specs.Answers.{reaction_of, ReactionFits}
 use Rattle.headend_steps.specs.Receive.{keys_fit_of, receive_answer_of, called_for, written_for, reaction_to, receive_called_of, receive_written_of, Writable}
-use Rattle.headend_steps.proofs.AskedLaws.{receive_asked, receive_refused, receive_done}
+use Rattle.headend_steps.proofs.AskedLaws.{receive_asked}
 use Rattle.headend_steps.proofs.AnswerFits.{reaction_ready, reaction_writable}
 use Rattle.headend_steps.proofs.receive.receive_called.Goals as goal
 
@@ -49,56 +47,54 @@ module _ (h : HeadEnd) (s : Found) (address : ℕ) (digest : Bool) (r : Reading)
     key_wide : receive_answer_of h bad len s address digest (keys_fit_of read write) r auth lent ≡ Done → length write ≡ 20
     key_wide e = eqb-true (length write) 20 (both (message_key_fits_of read) (message_key_fits_of write) (receive_asked h bad len s address digest (keys_fit_of read write) r auth lent e).keys-fit).1
 
-pub returns-then-not-is_done : goal.returns-then-not-is_done
+pub returns-in-Err : goal.returns-in-Err
 unfolding receive_called_of receive_written_of
-returns-then-not-is_done c =
+returns-in-Err c =
     let x = c.args in
-    let asked = answer_is x.h x.s x.address (digest_holds_of x.read_key.now x.r.digest x.message.now) x.r x.bad x.len x.read_key.now x.write_key.now
-    (length x.auth.now) (length x.out.now) _ _ _ c.receive_answer-a.result c.is_digest_right-digest.ensures c.message_key_fits.ensures c.message_key_fits-2.ensures c.receive_answer-a.ensures in
-    let a = c.receive_answer-a in
-    let w = reaction_to x.h x.s x.address (digest_holds_of x.read_key.now x.r.digest x.message.now) x.r in
-    let gone = receive_refused x.h w x.auth.now x.write_key.now a.result (sym c.is_done.ensures ∙ c.if-not-is_done.true) in (
-      c.answered.ensures ∙ gone.0 ∙ ap (λ (y : Answer). called_for y x.h w x.auth.now x.write_key.now) asked,
-      ap (overlay x.out.now) (gone.1 ∙ ap (λ (y : Answer). written_for y w x.auth.now x.write_key.now) asked),
+    let digest = digest_holds_of x.read_key.now x.r.digest x.message.now in
+    let asked = answer_is x.h x.s x.address digest x.r x.bad x.len x.read_key.now x.write_key.now (length x.auth.now) (length x.out.now)
+    _ _ _ c.receive_answer.result c.is_digest_right-digest.ensures c.message_key_fits.ensures c.message_key_fits-2.ensures c.receive_answer.ensures in
+    let w = reaction_to x.h x.s x.address digest x.r in
+    let no = sym c.in-Err.is ∙ asked in (
+      c.answered.ensures ∙ ap (λ (y : Answer). called_for y x.h w x.auth.now x.write_key.now) no,
+      ap (overlay x.out.now) (ap (λ (y : Answer). written_for y w x.auth.now x.write_key.now) no),
     )
 
-pub react-w-requires : goal.react-w-requires
-react-w-requires c =
+pub react-reaction-requires : goal.react-reaction-requires
+react-reaction-requires c =
     let x = c.args in
-    let asked = answer_is x.h x.s x.address (digest_holds_of x.read_key.now x.r.digest x.message.now) x.r x.bad x.len x.read_key.now x.write_key.now
-    (length x.auth.now) (length x.out.now) _ _ _ c.receive_answer-a.result c.is_digest_right-digest.ensures c.message_key_fits.ensures c.message_key_fits-2.ensures c.receive_answer-a.ensures in
-    let done = sym asked ∙ is-done c.receive_answer-a.result (sym c.is_done.ensures ∙ c.if-not-is_done.false) in
-    known_ready x.h x.address c.entry_of-k.result c.entry_of-k.ensures
-    (reaction_ready x.h x.bad x.len x.s x.address (digest_holds_of x.read_key.now x.r.digest x.message.now) (keys_fit_of x.read_key.now x.write_key.now) x.r (length x.auth.now) (length x.out.now) done)
-
-pub put_answer-n-requires : goal.put_answer-n-requires
-put_answer-n-requires c =
-    let x = c.args in
-    let asked = answer_is x.h x.s x.address (digest_holds_of x.read_key.now x.r.digest x.message.now) x.r x.bad x.len x.read_key.now x.write_key.now
-    (length x.auth.now) (length x.out.now) _ _ _ c.receive_answer-a.result c.is_digest_right-digest.ensures c.message_key_fits.ensures c.message_key_fits-2.ensures c.receive_answer-a.ensures in
     let digest = digest_holds_of x.read_key.now x.r.digest x.message.now in
-    let keys = keys_fit_of x.read_key.now x.write_key.now in
-    let done = sym asked ∙ is-done c.receive_answer-a.result (sym c.is_done.ensures ∙ c.if-not-is_done.false) in
-    let wide = key_wide x.h x.s x.address digest x.r x.bad x.len x.read_key.now x.write_key.now (length x.auth.now) (length x.out.now) done in
-    reaction_there x.h x.s x.address digest x.r x.auth.now x.write_key.now (length x.out.now) _ c.entry_of-k.result c.react-w.result c.is_digest_right-digest.ensures c.entry_of-k.ensures c.react-w.ensures
-    (reaction_writable x.h x.bad x.len x.s x.address digest keys x.r x.auth.now x.write_key.now (length x.out.now) done wide)
+    let asked = answer_is x.h x.s x.address digest x.r x.bad x.len x.read_key.now x.write_key.now (length x.auth.now) (length x.out.now)
+    _ _ _ c.receive_answer.result c.is_digest_right-digest.ensures c.message_key_fits.ensures c.message_key_fits-2.ensures c.receive_answer.ensures in
+    known_ready x.h x.address c.entry_of.result c.entry_of.ensures
+    (reaction_ready x.h x.bad x.len x.s x.address digest (keys_fit_of x.read_key.now x.write_key.now) x.r (length x.auth.now) (length x.out.now) (sym asked ∙ c.in-Ok.is))
 
-pub returns : goal.returns
-unfolding receive_called_of receive_written_of
-returns c =
+pub put_answer-requires : goal.put_answer-requires
+put_answer-requires c =
     let x = c.args in
-    let asked = answer_is x.h x.s x.address (digest_holds_of x.read_key.now x.r.digest x.message.now) x.r x.bad x.len x.read_key.now x.write_key.now
-    (length x.auth.now) (length x.out.now) _ _ _ c.receive_answer-a.result c.is_digest_right-digest.ensures c.message_key_fits.ensures c.message_key_fits-2.ensures c.receive_answer-a.ensures in
+    let digest = digest_holds_of x.read_key.now x.r.digest x.message.now in
+    let asked = answer_is x.h x.s x.address digest x.r x.bad x.len x.read_key.now x.write_key.now (length x.auth.now) (length x.out.now)
+    _ _ _ c.receive_answer.result c.is_digest_right-digest.ensures c.message_key_fits.ensures c.message_key_fits-2.ensures c.receive_answer.ensures in
+    let done = sym asked ∙ c.in-Ok.is in
+    let wide = key_wide x.h x.s x.address digest x.r x.bad x.len x.read_key.now x.write_key.now (length x.auth.now) (length x.out.now) done in
+    reaction_there x.h x.s x.address digest x.r x.auth.now x.write_key.now (length x.out.now) _ c.entry_of.result c.react-reaction.result c.is_digest_right-digest.ensures c.entry_of.ensures c.react-reaction.ensures
+    (reaction_writable x.h x.bad x.len x.s x.address digest (keys_fit_of x.read_key.now x.write_key.now) x.r x.auth.now x.write_key.now (length x.out.now) done wide)
+
+pub returns-in-Ok : goal.returns-in-Ok
+unfolding receive_called_of receive_written_of
+returns-in-Ok c =
+    let x = c.args in
+    let digest = digest_holds_of x.read_key.now x.r.digest x.message.now in
+    let asked = answer_is x.h x.s x.address digest x.r x.bad x.len x.read_key.now x.write_key.now (length x.auth.now) (length x.out.now)
+    _ _ _ c.receive_answer.result c.is_digest_right-digest.ensures c.message_key_fits.ensures c.message_key_fits-2.ensures c.receive_answer.ensures in
     let auth = x.auth.now in
     let write = x.write_key.now in
-    let digest = digest_holds_of x.read_key.now x.r.digest x.message.now in
-    let a = c.receive_answer-a in
-    let w = c.react-w.result in
-    let same = reaction_is x.h x.s x.address digest x.r _ c.entry_of-k.result w c.is_digest_right-digest.ensures c.entry_of-k.ensures c.react-w.ensures in
+    let w = c.react-reaction.result in
+    let same = reaction_is x.h x.s x.address digest x.r _ c.entry_of.result w c.is_digest_right-digest.ensures c.entry_of.ensures c.react-reaction.ensures in
     let q = receive_answer_of x.h x.bad x.len x.s x.address digest (keys_fit_of x.read_key.now write) x.r (length auth) (length x.out.now) in
-    let put = c.put_answer-n.ensures in
-    let over = receive_done x.h w auth write a.result (sym c.is_done.ensures ∙ c.if-not-is_done.false) in (
-      ap (λ (n : ℕ). record { answer = a.result; state = w.state; count = n }) put.0 ∙ over.0
-          ∙ ap (λ (y : Answer). called_for y x.h w auth write) asked ∙ ap (λ (y : Reaction). called_for q x.h y auth write) same,
-      put.1 ∙ ap (overlay x.out.now) (over.1 ∙ ap (λ (y : Answer). written_for y w auth write) asked ∙ ap (λ (y : Reaction). written_for q y auth write) same),
+    let put = c.put_answer.ensures in
+    let done = sym c.in-Ok.is ∙ asked in (
+      ap (λ (n : ℕ). record { answer = Done; state = w.state; count = n }) put.0
+          ∙ ap (λ (y : Answer). called_for y x.h w auth write) done ∙ ap (λ (y : Reaction). called_for q x.h y auth write) same,
+      put.1 ∙ ap (overlay x.out.now) (ap (λ (y : Answer). written_for y w auth write) done ∙ ap (λ (y : Reaction). written_for q y auth write) same),
     )

@@ -4,4 +4,4 @@ use Rattle.key_association.proofs.listing.listed.Goals as goal
 
 pub returns : goal.returns
 unfolding fresh_of
-returns c = simp (c.mint-second.ensures, c.mint-first.ensures, c.width-w.ensures.0)
+returns c = simp (c.mint-2.ensures, c.mint.ensures, c.width-w.ensures.0)

@@ -7,9 +7,7 @@ pub returns-then-is_serving : goal.returns-then-is_serving
 returns-then-is_serving c = by_older _ _ _ _ (sym c.is_serving.ensures ∙ c.if-is_serving.true)
 
 pub returns-then-is_serving-2 : goal.returns-then-is_serving-2
-returns-then-is_serving-2 c = let e = c in
-    by_newer _ _ _ _ (sym e.is_serving.ensures ∙ e.if-is_serving.false) (sym c.is_serving-2.ensures ∙ c.if-is_serving-2.true)
+returns-then-is_serving-2 c = by_newer _ _ _ _ (sym c.is_serving.ensures ∙ c.if-is_serving.false) (sym c.is_serving-else-is_serving.ensures ∙ c.if-is_serving-2.true)
 
-pub returns : goal.returns
-returns c = let e = c in
-    by_neither _ _ _ _ (sym e.is_serving.ensures ∙ e.if-is_serving.false) (sym c.is_serving-2.ensures ∙ c.if-is_serving-2.false)
+pub returns-else-is_serving-2 : goal.returns-else-is_serving-2
+returns-else-is_serving-2 c = by_neither _ _ _ _ (sym c.is_serving.ensures ∙ c.if-is_serving.false) (sym c.is_serving-else-is_serving.ensures ∙ c.if-is_serving-2.false)

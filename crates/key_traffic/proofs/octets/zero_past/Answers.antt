@@ -1,20 +1,18 @@
 -- `key_traffic::octets::zero_past` meets its contract.
-use Rattle.key_traffic.proofs.OctetsLaws.{zero_end, zero_here, zero_not}
-use mathlib.Core.Path.{sym, ◌∙◌}
+use mathlib.Core.Path.{◌∙◌}
+use borrow.Author.Tests.{tests}
+use lib.Dec.{eqb}
+use lib.ListN.{drop}
+use Rattle.std.proofs.Common.{rules}
+use Rattle.std.proofs.lemmas.Iterator.{YieldsList-from_slice}
+use Rattle.std.proofs.lemmas.Iterator.Adapters.{YieldsList-from_skip}
+use Rattle.std.proofs.lemmas.Iterator.Search.{all_from_yields_List}
+use Rattle.key_traffic.proofs.OctetsLaws.{zero_by_all}
 use Rattle.key_traffic.specs.Octets.{zero_past_of}
-use native.Mathlib.Omega.{arith}
-use mathlib.Core.Path.{refl}
 use Rattle.key_traffic.proofs.octets.zero_past.Goals as goal
 
-pub loop-i-init : goal.loop-i-init
-unfolding zero_past_of
-loop-i-init c = refl
-
-pub returns-then-o-i-ne0 : goal.returns-then-o-i-ne0
-returns-then-o-i-ne0 c = sym (c.loop-i.invariant ∙ zero_not c.args.o _ (omega arith) c.if-o-i-ne0.true)
-
-pub loop-i-preserved : goal.loop-i-preserved
-loop-i-preserved c = c.loop-i.invariant ∙ zero_here c.args.o _ (omega arith) c.if-o-i-ne0.false
-
 pub returns : goal.returns
-returns c = sym (c.loop-i.invariant ∙ zero_end c.args.o c.loop-i.i (omega arith))
+unfolding zero_past_of
+returns c =
+    all_from_yields_List (λ x. eqb x 0) _ _ _ c.all.ensures.ran (YieldsList-from_skip c.args.w (YieldsList-from_slice c.args.o cc) cc) (λ x b q k. search (rules, tests))
+    ∙ zero_by_all (drop c.args.w c.args.o)

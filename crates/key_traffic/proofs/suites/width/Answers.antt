@@ -1,17 +1,19 @@
 -- `key_traffic::suites::width` meets its contract.
-use Rattle.key_traffic.specs.Suites.{width_of}
-use borrow.Author.Tests.{eq-eqb, ne_eqb}
+use mathlib.Core.Path.{refl}
 use native.Mathlib.Omega.{arith}
+use Rattle.std.proofs.Common.{rules}
+use borrow.Author.Tests.{tests}
+use Rattle.key_traffic.specs.Suites.{width_of}
 use Rattle.key_traffic.proofs.suites.width.Goals as goal
 
-pub returns-then-suite-eq-SUITE_DES : goal.returns-then-suite-eq-SUITE_DES
+pub returns-in-256 : goal.returns-in-256
 unfolding width_of
-returns-then-suite-eq-SUITE_DES c = (simp (eq-eqb _ _ c.if-suite-eq-SUITE_DES.true), omega arith)
+returns-in-256 c = rw c.in-256.is (refl, omega arith)
 
-pub returns-then-suite-eq-SUITE_AES : goal.returns-then-suite-eq-SUITE_AES
+pub returns-in-768 : goal.returns-in-768
 unfolding width_of
-returns-then-suite-eq-SUITE_AES c = (simp (ne_eqb _ _ c.if-suite-eq-SUITE_DES.false, eq-eqb _ _ c.if-suite-eq-SUITE_AES.true), omega arith)
+returns-in-768 c = rw c.in-768.is (refl, omega arith)
 
-pub returns : goal.returns
+pub returns-in_default : goal.returns-in_default
 unfolding width_of
-returns c = (simp (ne_eqb _ _ c.if-suite-eq-SUITE_DES.false, ne_eqb _ _ c.if-suite-eq-SUITE_AES.false), omega arith)
+returns-in_default c = search (rules, tests)

@@ -1,19 +1,19 @@
 -- `message_attributes::octets::key_octets` meets its contract.
-use Rattle.message_rules.specs.Fields.{key_octets_of}
-use Rattle.key_traffic.specs.Octets.{octets_value}
 use native.Mathlib.Omega.{arith}
 use lib.ListN.{length}
 use lib.Seq.{take_all}
+use Rattle.key_traffic.specs.Octets.{octets_value}
+use Rattle.message_rules.specs.Fields.{key_octets_of}
 use Rattle.message_attributes.proofs.octets.key_octets.Goals as goal
 
-pub returns-then-width-eq-WIDTH_DES : goal.returns-then-width-eq-WIDTH_DES
+pub returns-in-8 : goal.returns-in-8
 unfolding key_octets_of
-returns-then-width-eq-WIDTH_DES c = rw c.eight_octets-o.ensures
+returns-in-8 c = rw c.own_octets-octets.ensures
 
-pub returns-then-width-eq-WIDTH_AES : goal.returns-then-width-eq-WIDTH_AES
+pub returns-in-16 : goal.returns-in-16
 unfolding key_octets_of
-returns-then-width-eq-WIDTH_AES c = rw c.sixteen_octets-o.ensures
+returns-in-16 c = rw c.own_octets-octets-in-16.ensures
 
-pub returns : goal.returns
+pub returns-in_default : goal.returns-in_default
 unfolding key_octets_of octets_value
-returns c = rw (c.octets-o.ensures, take_all (length c.args.v.now) c.args.v.now (omega arith))
+returns-in_default c = rw (c.octets-octets.ensures, take_all (length c.args.v.now) c.args.v.now (omega arith))

@@ -16,5 +16,5 @@ returns-then-s-start-2 c = let s = c.args.s.now in
     let l : length (drop i s) ≡ length s - i = length-drop i s in
     take_all (length s - i) (drop i s) (omega arith) ∙ sym (take_all c.args.len (drop i s) (omega arith))
 
-pub returns : goal.returns
-returns c = rw add-sub_cancel_left
+pub returns-else-s-start-2 : goal.returns-else-s-start-2
+returns-else-s-start-2 c = rw add-sub_cancel_left

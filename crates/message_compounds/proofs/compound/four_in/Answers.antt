@@ -6,14 +6,13 @@ pub returns : goal.returns
 unfolding four_value inside_at_of
 returns c = rw (
   c.are_four_complete.ensures,
-  c.no_params.ensures,
-  c.no_params-2.ensures,
+  c.no_compounds.ensures,
   c.descriptor_in-v.ensures,
-  c.part.ensures,
+  c.part_at.ensures,
   c.descriptor_in-w.ensures,
-  c.part-2.ensures,
+  c.part_at-2.ensures,
   c.descriptor_in-x.ensures,
-  c.part-3.ensures,
+  c.part_at-3.ensures,
   c.descriptor_in-y.ensures,
-  c.part-4.ensures,
+  c.part_at-4.ensures,
 )

@@ -8,7 +8,14 @@ pub returns-then-count-le-KEY_REPLY_PARAMS : goal.returns-then-count-le-KEY_REPL
 unfolding rest_sound_of
 returns-then-count-le-KEY_REPLY_PARAMS c = simp (le-leb _ _ c.if-count-le-KEY_REPLY_PARAMS.true)
 
-pub returns : goal.returns
+pub returns-else-count-le-KEY_REPLY_PARAMS : goal.returns-else-count-le-KEY_REPLY_PARAMS
 unfolding rest_sound_of inside_at_of
-returns c = simp (lt-leb _ _ c.if-count-le-KEY_REPLY_PARAMS.false)
-    (rw (c.pass_inside-x.ensures, c.pass_inside-y.ensures, sound_13 c.part.result.now, sound_13 c.part-2.result.now, c.part.ensures, c.part-2.ensures))
+returns-else-count-le-KEY_REPLY_PARAMS c = simp (lt-leb _ _ c.if-count-le-KEY_REPLY_PARAMS.false)
+    (rw (
+      c.pass_inside.ensures,
+      c.pass_inside-else-count-le-KEY_REPLY_PARAMS.ensures,
+      sound_13 c.part_at.result.now,
+      sound_13 c.part_at-else-count-le-KEY_REPLY_PARAMS.result.now,
+      c.part_at.ensures,
+      c.part_at-else-count-le-KEY_REPLY_PARAMS.ensures,
+    ))

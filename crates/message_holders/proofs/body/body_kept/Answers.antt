@@ -3,14 +3,14 @@ use mathlib.Core.Path.{◌≡◌, refl}
 use native.Mathlib.Omega.{arith}
 use Rattle.message_holders.proofs.body.body_kept.Goals as goal
 
-pub returns-then-r-eq0 : goal.returns-then-r-eq0
-returns-then-r-eq0 c = (rw c.if-r-eq0.true refl, refl)
+pub returns-in-0 : goal.returns-in-0
+returns-in-0 c = (rw c.in-0.is refl, refl)
 
-pub returns-then-r-eq1 : goal.returns-then-r-eq1
-returns-then-r-eq1 c = (rw c.if-r-eq1.true refl, refl)
+pub returns-in-1 : goal.returns-in-1
+returns-in-1 c = (rw c.in-1.is refl, refl)
 
-pub returns-then-r-eq2 : goal.returns-then-r-eq2
-returns-then-r-eq2 c = (rw c.if-r-eq2.true refl, refl)
+pub returns-in-2 : goal.returns-in-2
+returns-in-2 c = (rw c.in-2.is refl, refl)
 
-pub returns : goal.returns
-returns c = let last : c.args.r.count ≡ 3 = omega arith in (rw last refl, refl)
+pub returns-in_default : goal.returns-in_default
+returns-in_default c = let last : c.args.r.count ≡ 3 = omega arith in (rw last refl, refl)

@@ -3,20 +3,20 @@ use mathlib.Core.Path.{◌≡◌, refl}
 use native.Mathlib.Omega.{arith}
 use Rattle.message_holders.proofs.body.body_noted.Goals as goal
 
-pub returns-then-i-eq-SLOT_KEY_NUMBER : goal.returns-then-i-eq-SLOT_KEY_NUMBER
-returns-then-i-eq-SLOT_KEY_NUMBER c = (rw (c.if-i-eq-SLOT_KEY_NUMBER.true, c.noted-u.ensures) refl, refl)
+pub returns-in-0 : goal.returns-in-0
+returns-in-0 c = (rw (c.in-0.is, c.noted.ensures) refl, refl)
 
-pub returns-then-i-eq-SLOT_SAID : goal.returns-then-i-eq-SLOT_SAID
-returns-then-i-eq-SLOT_SAID c = (rw (c.if-i-eq-SLOT_SAID.true, c.noted-u-then-i-eq-SLOT_SAID.ensures) refl, refl)
+pub returns-in-1 : goal.returns-in-1
+returns-in-1 c = (rw (c.in-1.is, c.noted-in-1.ensures) refl, refl)
 
-pub returns-then-i-eq-SLOT_KEY_LIFETIME : goal.returns-then-i-eq-SLOT_KEY_LIFETIME
-returns-then-i-eq-SLOT_KEY_LIFETIME c = (rw (c.if-i-eq-SLOT_KEY_LIFETIME.true, c.noted-u-then-i-eq-SLOT_KEY_LIFETIME.ensures) refl, refl)
+pub returns-in-2 : goal.returns-in-2
+returns-in-2 c = (rw (c.in-2.is, c.noted-in-2.ensures) refl, refl)
 
-pub returns-then-i-eq-SLOT_ERROR : goal.returns-then-i-eq-SLOT_ERROR
-returns-then-i-eq-SLOT_ERROR c = (rw (c.if-i-eq-SLOT_ERROR.true, c.noted-u-then-i-eq-SLOT_ERROR.ensures) refl, refl)
+pub returns-in-3 : goal.returns-in-3
+returns-in-3 c = (rw (c.in-3.is, c.noted-in-3.ensures) refl, refl)
 
-pub returns-then-i-eq-SLOT_AUTH_KEY : goal.returns-then-i-eq-SLOT_AUTH_KEY
-returns-then-i-eq-SLOT_AUTH_KEY c = (rw (c.if-i-eq-SLOT_AUTH_KEY.true, c.noted-u-then-i-eq-SLOT_AUTH_KEY.ensures) refl, refl)
+pub returns-in-4 : goal.returns-in-4
+returns-in-4 c = (rw (c.in-4.is, c.noted-in-4.ensures) refl, refl)
 
-pub returns : goal.returns
-returns c = let last : c.args.i ≡ 5 = omega arith in (rw (last, c.noted-u-2.ensures) refl, refl)
+pub returns-in_default : goal.returns-in_default
+returns-in_default c = let last : c.args.i ≡ 5 = omega arith in (rw (last, c.noted-in_default.ensures) refl, refl)

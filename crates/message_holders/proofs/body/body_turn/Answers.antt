@@ -11,8 +11,8 @@ returns-then-i-ge-SLOT_NOT_REQUIRED c = (
   c.body_last-q.ensures.1 ∙ over_attr _ c.in-Attr.is,
 )
 
-pub overflow_add-end : goal.overflow_add-end
-overflow_add-end c = omega (arith, within_attr c.in-Attr.is c.requires.1)
+pub overflow_add-v : goal.overflow_add-v
+overflow_add-v c = omega (arith, within_attr c.in-Attr.is c.requires.1)
 
 pub slice_bounds-v-end : goal.slice_bounds-v-end
 slice_bounds-v-end c = omega (arith, within_attr c.in-Attr.is c.requires.1)
@@ -20,7 +20,7 @@ slice_bounds-v-end c = omega (arith, within_attr c.in-Attr.is c.requires.1)
 pub returns-then-i-lt-SLOT_COMPOUND : goal.returns-then-i-lt-SLOT_COMPOUND
 returns-then-i-lt-SLOT_COMPOUND c = (
   c.body_noted.ensures.0
-      ∙ body_entered c.in-Attr.is _ _ (body_of c.args.r) c.body_last-q.ensures.0 c.body_slot-i.ensures c.if-i-lt-SLOT_COMPOUND.true (within_attr c.in-Attr.is c.requires.1) c.in_range-fits.ensures,
+      ∙ body_entered c.in-Attr.is _ _ (body_of c.args.r) c.body_last-q.ensures.0 c.body_slot-i.ensures c.if-i-lt-SLOT_COMPOUND.true (within_attr c.in-Attr.is c.requires.1) c.in_range.ensures,
   c.body_noted.ensures.1 ∙ c.body_last-q.ensures.1 ∙ over_attr _ c.in-Attr.is,
 )
 
@@ -33,7 +33,7 @@ returns-then-q-lt-COMPOUNDS_KEPT c = (
 
 pub returns-else-q-lt-COMPOUNDS_KEPT : goal.returns-else-q-lt-COMPOUNDS_KEPT
 returns-else-q-lt-COMPOUNDS_KEPT c = (
-  body_later c.in-Attr.is _ _ (body_of c.args.r) c.body_last-q.ensures.0 c.body_slot-i.ensures c.if-i-ge-SLOT_NOT_REQUIRED.false c.if-i-lt-SLOT_COMPOUND.false c.if-q-lt-COMPOUNDS_KEPT.false c.pass_inside-later.ensures,
+  body_later c.in-Attr.is _ _ (body_of c.args.r) c.body_last-q.ensures.0 c.body_slot-i.ensures c.if-i-ge-SLOT_NOT_REQUIRED.false c.if-i-lt-SLOT_COMPOUND.false c.if-q-lt-COMPOUNDS_KEPT.false c.pass_inside.ensures,
   c.body_last-q.ensures.1 ∙ over_attr _ c.in-Attr.is,
 )
 

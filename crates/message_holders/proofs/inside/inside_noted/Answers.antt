@@ -3,14 +3,14 @@ use mathlib.Core.Path.{◌≡◌, refl}
 use native.Mathlib.Omega.{arith}
 use Rattle.message_holders.proofs.inside.inside_noted.Goals as goal
 
-pub returns-then-i-eq0 : goal.returns-then-i-eq0
-returns-then-i-eq0 c = (rw (c.if-i-eq0.true, c.noted-u.ensures) refl, refl)
+pub returns-in-0 : goal.returns-in-0
+returns-in-0 c = (rw (c.in-0.is, c.noted.ensures) refl, refl)
 
-pub returns-then-i-eq1 : goal.returns-then-i-eq1
-returns-then-i-eq1 c = (rw (c.if-i-eq1.true, c.noted-u-then-i-eq1.ensures) refl, refl)
+pub returns-in-1 : goal.returns-in-1
+returns-in-1 c = (rw (c.in-1.is, c.noted-in-1.ensures) refl, refl)
 
-pub returns-then-i-eq2 : goal.returns-then-i-eq2
-returns-then-i-eq2 c = (rw (c.if-i-eq2.true, c.noted-u-then-i-eq2.ensures) refl, refl)
+pub returns-in-2 : goal.returns-in-2
+returns-in-2 c = (rw (c.in-2.is, c.noted-in-2.ensures) refl, refl)
 
-pub returns : goal.returns
-returns c = let last : c.args.i ≡ 3 = omega arith in (rw (last, c.noted-u-2.ensures) refl, refl)
+pub returns-in_default : goal.returns-in_default
+returns-in_default c = let last : c.args.i ≡ 3 = omega arith in (rw (last, c.noted-in_default.ensures) refl, refl)

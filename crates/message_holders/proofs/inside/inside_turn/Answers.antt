@@ -10,8 +10,8 @@ returns-then-i-ge-INSIDE_NOT_REQUIRED c = (
   over_attr _ c.in-Attr.is,
 )
 
-pub overflow_add-end : goal.overflow_add-end
-overflow_add-end c = omega (arith, within_attr c.in-Attr.is c.requires)
+pub overflow_add-start : goal.overflow_add-start
+overflow_add-start c = omega (arith, within_attr c.in-Attr.is c.requires)
 
 pub slice_bounds-in_range-end : goal.slice_bounds-in_range-end
 slice_bounds-in_range-end c = omega (arith, within_attr c.in-Attr.is c.requires)

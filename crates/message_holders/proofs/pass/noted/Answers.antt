@@ -7,6 +7,6 @@ pub returns-then-t-eq0 : goal.returns-then-t-eq0
 unfolding noted_of
 returns-then-t-eq0 c = rw c.if-t-eq0.true
 
-pub returns : goal.returns
+pub returns-else-t-eq0 : goal.returns-else-t-eq0
 unfolding noted_of
-returns c = simp (ne_eqb _ _ c.if-t-eq0.false)
+returns-else-t-eq0 c = simp (ne_eqb _ _ c.if-t-eq0.false)

@@ -7,6 +7,6 @@ pub returns-then-h-eq-TYPE_TEK_PARAMETERS : goal.returns-then-h-eq-TYPE_TEK_PARA
 unfolding longest_life_of
 returns-then-h-eq-TYPE_TEK_PARAMETERS c = rw c.if-h-eq-TYPE_TEK_PARAMETERS.true
 
-pub returns : goal.returns
+pub returns-else-h-eq-TYPE_TEK_PARAMETERS : goal.returns-else-h-eq-TYPE_TEK_PARAMETERS
 unfolding longest_life_of
-returns c = simp (ne_eqb _ _ c.if-h-eq-TYPE_TEK_PARAMETERS.false)
+returns-else-h-eq-TYPE_TEK_PARAMETERS c = simp (ne_eqb _ _ c.if-h-eq-TYPE_TEK_PARAMETERS.false)

@@ -6,10 +6,6 @@ use borrow.Author.Rules.{rules}
 use Rattle.message_parts.proofs.PartLaws.{length_first}
 use Rattle.message_parts.proofs.lengths.descriptors_len.Goals as goal
 
-pub returns-then-n-lt-SAIDS_MAX : goal.returns-then-n-lt-SAIDS_MAX
-returns-then-n-lt-SAIDS_MAX c = let s : length c.args.ds ≡ 4 = search rules in
-    (omega (arith, length_first c.args.n c.args.ds s), omega arith)
-
 pub returns : goal.returns
 returns c = let s : length c.args.ds ≡ 4 = search rules in
     (omega (arith, length_first c.args.n c.args.ds s), omega arith)

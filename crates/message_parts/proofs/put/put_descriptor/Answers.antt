@@ -3,21 +3,17 @@ use mathlib.Core.Path.{refl, sym}
 use native.Mathlib.Omega.{arith}
 use Rattle.message_rules.specs.Writing.{descriptor_items_of}
 use Rattle.message_rules.proofs.PartsWritten.{descriptor_length}
-use Rattle.message_parts.proofs.Stores.{then_items, then_inside, wrote_none}
+use Rattle.message_parts.proofs.Stores.{then_items, then_inside}
 use Rattle.message_parts.proofs.put.put_descriptor.Goals as goal
-
-pub returns-then-not-on : goal.returns-then-not-on
-returns-then-not-on c = record { wrote = rw c.if-not-on.true (wrote_none _ _); upper_bound = omega arith }
 
 pub returns : goal.returns
 unfolding descriptor_items_of
 returns c = record {
-  wrote = rw c.if-not-on.false
-      (then_inside
+  wrote = then_inside
       (sym (descriptor_length c.args.d))
       c.put_head-a.ensures.0
       c.put_head-a.ensures.1
       (then_items c.put_two-b.ensures.wrote (then_items c.put_one-c.ensures.wrote c.put_two.ensures.wrote))
-      refl);
+      refl;
   upper_bound = omega arith;
 }

@@ -11,10 +11,6 @@ use Rattle.message_parts.proofs.PartLaws.{own_octets}
 use Rattle.message_parts.proofs.Stores.{wrote_as}
 use Rattle.message_parts.proofs.put.put_key.Goals as goal
 
-pub slice_bounds-o-end : goal.slice_bounds-o-end
-slice_bounds-o-end c = let l : length c.args.k.octets ≡ 16 = search rules in
-    omega arith
-
 pub slice_bounds-put_attr-end : goal.slice_bounds-put_attr-end
 slice_bounds-put_attr-end c = let l : length c.args.k.octets ≡ 16 = search rules in
     sym (length-take-le c.own_len-n.result c.args.k.octets (omega arith))

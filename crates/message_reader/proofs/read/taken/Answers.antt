@@ -4,7 +4,7 @@ use Rattle.message_compounds.specs.declared.compound.Compounds.{Compounds}
 use Rattle.message_holders.specs.declared.pass.Body.{Body}
 use Rattle.message_rules.specs.declared.fields.Reading.{Reading}
 use Rattle.message_rules.specs.Attributes.{be16, be32}
-use Rattle.questions.specs.declared.refusal.Answer.TheVariants.{Done}
+use Rattle.questions.specs.Answer.{Done}
 use lib.ListN.{get_or}
 use mathlib.Core.List.{List}
 use mathlib.Core.Path.{◌≡◌, refl}

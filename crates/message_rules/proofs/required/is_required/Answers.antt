@@ -1,51 +1,57 @@
 -- `message_rules::required::is_required` meets its contract.
 use mathlib.Core.Bool.{or-false}
-use borrow.Author.Tests.{eq-eqb, ne_eqb}
+use mathlib.Core.Logic.{⊎_elim, inl, inr}
+use borrow.Author.Tests.{ne_eqb}
 use Rattle.message_rules.specs.Ranges as ranges
 use Rattle.message_rules.specs.Ranges.{required_of, among}
 use Rattle.message_rules.proofs.RequiredLaws.{three_or, four_or}
 use Rattle.message_rules.proofs.required.is_required.Goals as goal
 
-pub returns-then-h-eq-CODE_AUTHORIZATION_REQUEST : goal.returns-then-h-eq-CODE_AUTHORIZATION_REQUEST
+pub returns-in-4 : goal.returns-in-4
 unfolding ranges.is_required_of required_of among
-returns-then-h-eq-CODE_AUTHORIZATION_REQUEST c = simp (eq-eqb _ _ c.if-h-eq-CODE_AUTHORIZATION_REQUEST.true, or-false)
+returns-in-4 c = rw c.in-4.is (simp or-false)
 
-pub returns-then-h-eq-CODE_AUTHORIZATION_REPLY : goal.returns-then-h-eq-CODE_AUTHORIZATION_REPLY
+pub returns-in-5 : goal.returns-in-5
 unfolding ranges.is_required_of required_of among
-returns-then-h-eq-CODE_AUTHORIZATION_REPLY c = simp (ne_eqb _ _ c.if-h-eq-CODE_AUTHORIZATION_REQUEST.false, eq-eqb _ _ c.if-h-eq-CODE_AUTHORIZATION_REPLY.true, four_or)
+returns-in-5 c = rw c.in-5.is (simp four_or)
 
-pub returns-then-h-eq-CODE_AUTHORIZATION_REJECT : goal.returns-then-h-eq-CODE_AUTHORIZATION_REJECT
+pub returns-in-6 : goal.returns-in-6
 unfolding ranges.is_required_of required_of among
-returns-then-h-eq-CODE_AUTHORIZATION_REJECT c = simp (ne_eqb _ _ c.if-h-eq-CODE_AUTHORIZATION_REQUEST.false, ne_eqb _ _ c.if-h-eq-CODE_AUTHORIZATION_REPLY.false, eq-eqb _ _ c.if-h-eq-CODE_AUTHORIZATION_REJECT.true, or-false)
+returns-in-6 c = ⊎_elim (λ e. rw e (simp or-false)) (λ e. rw e (simp or-false)) c.in-6.is
 
-pub returns-then-h-eq-CODE_KEY_REQUEST : goal.returns-then-h-eq-CODE_KEY_REQUEST
+pub returns-in-7 : goal.returns-in-7
 unfolding ranges.is_required_of required_of among
-returns-then-h-eq-CODE_KEY_REQUEST c = simp (ne_eqb _ _ c.if-h-eq-CODE_AUTHORIZATION_REQUEST.false, ne_eqb _ _ c.if-h-eq-CODE_AUTHORIZATION_REPLY.false, ne_eqb _ _ c.if-h-eq-CODE_AUTHORIZATION_REJECT.false, eq-eqb _ _ c.if-h-eq-CODE_KEY_REQUEST.true, three_or)
+returns-in-7 c = rw c.in-7.is (simp three_or)
 
-pub returns-then-h-eq-CODE_KEY_REPLY : goal.returns-then-h-eq-CODE_KEY_REPLY
+pub returns-in-8 : goal.returns-in-8
 unfolding ranges.is_required_of required_of among
-returns-then-h-eq-CODE_KEY_REPLY c = simp (ne_eqb _ _ c.if-h-eq-CODE_AUTHORIZATION_REQUEST.false, ne_eqb _ _ c.if-h-eq-CODE_AUTHORIZATION_REPLY.false, ne_eqb _ _ c.if-h-eq-CODE_AUTHORIZATION_REJECT.false, ne_eqb _ _ c.if-h-eq-CODE_KEY_REQUEST.false, eq-eqb _ _ c.if-h-eq-CODE_KEY_REPLY.true, four_or)
+returns-in-8 c = rw c.in-8.is (simp four_or)
 
-pub returns-then-h-eq-CODE_KEY_REJECT : goal.returns-then-h-eq-CODE_KEY_REJECT
+pub returns-in-9 : goal.returns-in-9
 unfolding ranges.is_required_of required_of among
-returns-then-h-eq-CODE_KEY_REJECT c = simp (ne_eqb _ _ c.if-h-eq-CODE_AUTHORIZATION_REQUEST.false, ne_eqb _ _ c.if-h-eq-CODE_AUTHORIZATION_REPLY.false, ne_eqb _ _ c.if-h-eq-CODE_AUTHORIZATION_REJECT.false, ne_eqb _ _ c.if-h-eq-CODE_KEY_REQUEST.false, ne_eqb _ _ c.if-h-eq-CODE_KEY_REPLY.false, eq-eqb _ _ c.if-h-eq-CODE_KEY_REJECT.true, four_or)
+returns-in-9 c = ⊎_elim (λ e. rw e (simp four_or)) (λ e. rw e (simp four_or)) c.in-9.is
 
-pub returns-then-h-eq-CODE_AUTHORIZATION_INVALID : goal.returns-then-h-eq-CODE_AUTHORIZATION_INVALID
+pub returns-in-13 : goal.returns-in-13
 unfolding ranges.is_required_of required_of among
-returns-then-h-eq-CODE_AUTHORIZATION_INVALID c = simp (ne_eqb _ _ c.if-h-eq-CODE_AUTHORIZATION_REQUEST.false, ne_eqb _ _ c.if-h-eq-CODE_AUTHORIZATION_REPLY.false, ne_eqb _ _ c.if-h-eq-CODE_AUTHORIZATION_REJECT.false, ne_eqb _ _ c.if-h-eq-CODE_KEY_REQUEST.false, ne_eqb _ _ c.if-h-eq-CODE_KEY_REPLY.false, ne_eqb _ _ c.if-h-eq-CODE_KEY_REJECT.false, eq-eqb _ _ c.if-h-eq-CODE_AUTHORIZATION_INVALID.true, or-false)
+returns-in-13 c = rw c.in-13.is (simp four_or)
 
-pub returns-then-h-eq-CODE_TEK_INVALID : goal.returns-then-h-eq-CODE_TEK_INVALID
+pub returns-in-23 : goal.returns-in-23
 unfolding ranges.is_required_of required_of among
-returns-then-h-eq-CODE_TEK_INVALID c = simp (ne_eqb _ _ c.if-h-eq-CODE_AUTHORIZATION_REQUEST.false, ne_eqb _ _ c.if-h-eq-CODE_AUTHORIZATION_REPLY.false, ne_eqb _ _ c.if-h-eq-CODE_AUTHORIZATION_REJECT.false, ne_eqb _ _ c.if-h-eq-CODE_KEY_REQUEST.false, ne_eqb _ _ c.if-h-eq-CODE_KEY_REPLY.false, ne_eqb _ _ c.if-h-eq-CODE_KEY_REJECT.false, ne_eqb _ _ c.if-h-eq-CODE_AUTHORIZATION_INVALID.false, eq-eqb _ _ c.if-h-eq-CODE_TEK_INVALID.true, four_or)
+returns-in-23 c = rw c.in-23.is (simp three_or)
 
-pub returns-then-h-eq-TYPE_TEK_PARAMETERS : goal.returns-then-h-eq-TYPE_TEK_PARAMETERS
+pub returns-in_default : goal.returns-in_default
 unfolding ranges.is_required_of required_of among
-returns-then-h-eq-TYPE_TEK_PARAMETERS c = simp (ne_eqb _ _ c.if-h-eq-CODE_AUTHORIZATION_REQUEST.false, ne_eqb _ _ c.if-h-eq-CODE_AUTHORIZATION_REPLY.false, ne_eqb _ _ c.if-h-eq-CODE_AUTHORIZATION_REJECT.false, ne_eqb _ _ c.if-h-eq-CODE_KEY_REQUEST.false, ne_eqb _ _ c.if-h-eq-CODE_KEY_REPLY.false, ne_eqb _ _ c.if-h-eq-CODE_KEY_REJECT.false, ne_eqb _ _ c.if-h-eq-CODE_AUTHORIZATION_INVALID.false, ne_eqb _ _ c.if-h-eq-CODE_TEK_INVALID.false, eq-eqb _ _ c.if-h-eq-TYPE_TEK_PARAMETERS.true, four_or)
-
-pub returns-then-h-eq-TYPE_SA_DESCRIPTOR : goal.returns-then-h-eq-TYPE_SA_DESCRIPTOR
-unfolding ranges.is_required_of required_of among
-returns-then-h-eq-TYPE_SA_DESCRIPTOR c = simp (ne_eqb _ _ c.if-h-eq-CODE_AUTHORIZATION_REQUEST.false, ne_eqb _ _ c.if-h-eq-CODE_AUTHORIZATION_REPLY.false, ne_eqb _ _ c.if-h-eq-CODE_AUTHORIZATION_REJECT.false, ne_eqb _ _ c.if-h-eq-CODE_KEY_REQUEST.false, ne_eqb _ _ c.if-h-eq-CODE_KEY_REPLY.false, ne_eqb _ _ c.if-h-eq-CODE_KEY_REJECT.false, ne_eqb _ _ c.if-h-eq-CODE_AUTHORIZATION_INVALID.false, ne_eqb _ _ c.if-h-eq-CODE_TEK_INVALID.false, ne_eqb _ _ c.if-h-eq-TYPE_TEK_PARAMETERS.false, eq-eqb _ _ c.if-h-eq-TYPE_SA_DESCRIPTOR.true, three_or)
-
-pub returns : goal.returns
-unfolding ranges.is_required_of required_of among
-returns c = simp (ne_eqb _ _ c.if-h-eq-CODE_AUTHORIZATION_REQUEST.false, ne_eqb _ _ c.if-h-eq-CODE_AUTHORIZATION_REPLY.false, ne_eqb _ _ c.if-h-eq-CODE_AUTHORIZATION_REJECT.false, ne_eqb _ _ c.if-h-eq-CODE_KEY_REQUEST.false, ne_eqb _ _ c.if-h-eq-CODE_KEY_REPLY.false, ne_eqb _ _ c.if-h-eq-CODE_KEY_REJECT.false, ne_eqb _ _ c.if-h-eq-CODE_AUTHORIZATION_INVALID.false, ne_eqb _ _ c.if-h-eq-CODE_TEK_INVALID.false, ne_eqb _ _ c.if-h-eq-TYPE_TEK_PARAMETERS.false, ne_eqb _ _ c.if-h-eq-TYPE_SA_DESCRIPTOR.false)
+returns-in_default c = let h = c.args.h in
+    let r = c.in_default.in_default-own.rest in
+    simp (
+      ne_eqb h 4 r.0.0.0.0.0.0.0.1,
+      ne_eqb h 5 r.0.0.0.0.0.0.1,
+      ne_eqb h 6 (λ e. r.0.0.0.0.0.1 (inl e)),
+      ne_eqb h 10 (λ e. r.0.0.0.0.0.1 (inr e)),
+      ne_eqb h 7 r.0.0.0.0.1,
+      ne_eqb h 8 r.0.0.0.1,
+      ne_eqb h 9 (λ e. r.0.0.1 (inl e)),
+      ne_eqb h 11 (λ e. r.0.0.1 (inr e)),
+      ne_eqb h 13 r.0.1,
+      ne_eqb h 23 r.1,
+    )

@@ -5,11 +5,17 @@ use Rattle.message_writer.proofs.limits.fields_fit.Goals as goal
 pub returns : goal.returns
 unfolding fields_fit_of
 returns c = simp (
-  c.keys_fit.ensures,
-  c.list_fits.ensures,
-  c.error_fits.ensures,
-  c.life_fits.ensures,
-  c.said_fits.ensures,
-  c.ak_fits.ensures,
   c.head_fits.ensures,
+  c.carried_or.ensures,
+  c.carried_or-2.ensures,
+  c.carried_or-3.ensures,
+  c.carried_or-4.ensures,
+  c.carried_or-5.ensures,
+  c.carried_or-6.ensures,
+  c.ak_in_range.ensures,
+  c.descriptors_fit.ensures,
+  c.descriptors_zero.ensures,
+  c.pair_fit.ensures,
+  c.params_zero.ensures,
+  c.params_zero-2.ensures,
 )

@@ -5,4 +5,4 @@ use Rattle.message_writer.proofs.limits.pair_fit.Goals as goal
 
 pub returns : goal.returns
 unfolding pair_fit_of
-returns c = simp (c.params_fit.ensures, c.params_fit-2.ensures, c.same_tek.ensures, c.tek_after.ensures) refl
+returns c = simp (c.params_fit.ensures, c.params_fit-2.ensures, c.eq.ensures, c.tek_after.ensures) refl

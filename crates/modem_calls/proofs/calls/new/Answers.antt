@@ -10,7 +10,7 @@ unfolding new_value new_questions
 returns-then-settings_fit-address c = let both = ap (λ (b : Bool). b && ltb c.args.address 281474976710656 && leb c.args.said 16383) (sym c.settings_fit.ensures) ∙ c.if-settings_fit-address.true in
     simp both (cc)
 
-pub returns : goal.returns
+pub returns-else-settings_fit-address : goal.returns-else-settings_fit-address
 unfolding new_value new_questions
-returns c = let both = ap (λ (b : Bool). b && ltb c.args.address 281474976710656 && leb c.args.said 16383) (sym c.settings_fit.ensures) ∙ c.if-settings_fit-address.false in
+returns-else-settings_fit-address c = let both = ap (λ (b : Bool). b && ltb c.args.address 281474976710656 && leb c.args.said 16383) (sym c.settings_fit.ensures) ∙ c.if-settings_fit-address.false in
     simp both (cc)

@@ -1,16 +1,17 @@
 -- `modem_frames::octets::seal_frame` meets its contract.
-use mathlib.Core.Path.{sym, ◌∙◌}
+use mathlib.Core.Path.{refl}
 use Rattle.modem_frames.proofs.OctetCallLaws.{seal_frame_refused, seal_frame_long, seal_frame_done}
 use Rattle.modem_frames.proofs.octets.seal_frame.Goals as goal
 
-pub returns-then-not-is_done : goal.returns-then-not-is_done
-returns-then-not-is_done c = let x = c.args in
-    seal_frame_refused x.m x.said x.frame.now x.sealed.now c.machine_of-t.result c.seal_frame_answer-a.result c.machine_of-t.ensures c.seal_frame_answer-a.ensures (sym c.is_done.ensures ∙ c.if-not-is_done.true)
+pub seal_under-requires : goal.seal_under-requires
+seal_under-requires c = let x = c.args in
+    seal_frame_long x.m x.said x.frame.now x.sealed.now c.machine_of-t.result _ c.machine_of-t.ensures c.in-Ok.ensures refl
 
-pub seal_under-n-requires : goal.seal_under-n-requires
-seal_under-n-requires c = let x = c.args in
-    seal_frame_long x.m x.said x.frame.now x.sealed.now c.machine_of-t.result c.seal_frame_answer-a.result c.machine_of-t.ensures c.seal_frame_answer-a.ensures (sym c.is_done.ensures ∙ c.if-not-is_done.false)
+pub returns-in-Ok : goal.returns-in-Ok
+returns-in-Ok c = let x = c.args in
+    seal_frame_done x.m x.said x.frame.now x.sealed.now c.machine_of-t.result _ c.machine_of-t.ensures c.in-Ok.ensures refl
+    c.seal_under.result _ c.seal_under.ensures.0 c.seal_under.ensures.1
 
-pub returns : goal.returns
-returns c = let x = c.args in
-    seal_frame_done x.m x.said x.frame.now x.sealed.now c.machine_of-t.result c.seal_frame_answer-a.result c.machine_of-t.ensures c.seal_frame_answer-a.ensures (sym c.is_done.ensures ∙ c.if-not-is_done.false) c.seal_under-n.result _ c.seal_under-n.ensures.0 c.seal_under-n.ensures.1
+pub returns-in-Err : goal.returns-in-Err
+returns-in-Err c = let x = c.args in
+    rw c.not_sealed.ensures (seal_frame_refused x.m x.said x.frame.now x.sealed.now c.machine_of-t.result _ c.machine_of-t.ensures c.in-Err.ensures _ refl)

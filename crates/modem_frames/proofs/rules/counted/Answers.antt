@@ -1,12 +1,11 @@
 -- `modem_frames::rules::counted` meets its contract.
-use Rattle.modem_frames.proofs.RuleLaws.{counted_taken, counted_refused, counted_not}
+use Prim.Native.Nat.{ℕ}
+use mathlib.Core.Path.{ap}
+use mathlib.Core.Logic.{⊎_elim}
+use Rattle.modem_frames.specs.FrameRules.{with_counts, counted_by_of}
 use Rattle.modem_frames.proofs.rules.counted.Goals as goal
 
-pub returns-then-n-eq-DONE : goal.returns-then-n-eq-DONE
-returns-then-n-eq-DONE c = counted_taken c.args.n c.args.m c.one_more.result c.if-n-eq-DONE.true c.one_more.ensures
-
-pub returns-then-n : goal.returns-then-n
-returns-then-n c = counted_refused c.args.n c.args.m c.one_more-then-n.result c.if-n-eq-DONE.false c.if-n.true c.one_more-then-n.ensures
-
-pub returns : goal.returns
-returns c = counted_not c.args.n c.args.m c.if-n-eq-DONE.false c.if-n.false
+pub returns-in-10 : goal.returns-in-10
+unfolding counted_by_of
+returns-in-10 c = let m = c.args.m in
+    ⊎_elim (λ e. rw e (ap (λ (k : ℕ). with_counts m m.taken k) c.one_more-in-10.ensures)) (λ e. rw e (ap (λ (k : ℕ). with_counts m m.taken k) c.one_more-in-10.ensures)) c.in-10.is

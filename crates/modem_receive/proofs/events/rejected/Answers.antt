@@ -1,28 +1,14 @@
 -- `modem_receive::events::rejected` meets its contract.
-use Rattle.modem_steps.proofs.ReadyLaws.{started_ready}
 use Rattle.modem_receive.specs.Events.{rejected}
 use mathlib.Core.Path.{refl}
-use borrow.Author.Tests.{eq-eqb, ne_eqb}
+use borrow.Author.Tests.{eq-eqb}
 use Rattle.modem_receive.proofs.events.rejected.Goals as goal
-
-pub plain_event-w-requires : goal.plain_event-w-requires
-plain_event-w-requires c = started_ready c.args.m c.start.result c.start.ensures c.requires
 
 pub returns-then-m-eq-AUTH_REAUTH_WAIT : goal.returns-then-m-eq-AUTH_REAUTH_WAIT
 unfolding rejected
 returns-then-m-eq-AUTH_REAUTH_WAIT c = simp (
   eq-eqb _ _ c.if-m-eq-AUTH_REAUTH_WAIT.true,
   c.deliver_all.ensures.0,
-  c.plain_event-w.ensures.0,
-  c.reject_event.ensures,
-  c.start.ensures,
-)
-    refl
-
-pub returns : goal.returns
-unfolding rejected
-returns c = simp (
-  ne_eqb _ _ c.if-m-eq-AUTH_REAUTH_WAIT.false,
   c.plain_event-w.ensures.0,
   c.reject_event.ensures,
   c.start.ensures,

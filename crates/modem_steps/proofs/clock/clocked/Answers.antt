@@ -1,21 +1,11 @@
 -- `modem_steps::clock::clocked` meets its contract.
-use Rattle.modem_steps.proofs.ReadyLaws.{started_ready}
-use Rattle.modem_steps.specs.State.{with_clock_of}
-use Rattle.modem_steps.specs.Clock.{clocked, slots_fired_of}
-use mathlib.Core.Path.{refl}
+use mathlib.Core.Path.{◌∙◌, ap}
+use Rattle.modem_steps.specs.declared.state.Progress.{Progress}
+use Rattle.modem_steps.specs.Clock.{slot_fired_of, slots_fired_of}
+use Rattle.std.proofs.Common.{add-one}
 use Rattle.modem_steps.proofs.clock.clocked.Goals as goal
 
-pub auth_fired-requires : goal.auth_fired-requires
-auth_fired-requires c = started_ready (with_clock_of c.args.m c.args.t) c.start.result c.start.ensures c.requires
-
-pub returns : goal.returns
-unfolding clocked slots_fired_of
-returns c = rw (
-  c.slot_fired-4.ensures.0,
-  c.slot_fired-3.ensures.0,
-  c.slot_fired-2.ensures.0,
-  c.slot_fired.ensures.0,
-  c.auth_fired.ensures.0,
-  c.start.ensures,
-)
-    refl
+pub loop-i-preserved : goal.loop-i-preserved
+unfolding slots_fired_of
+loop-i-preserved c = let l = c.loop-i in
+    (rw (add-one l.i) (c.slot_fired-w.ensures.0 ∙ ap (λ (v : Progress). slot_fired_of v l.i) l.invariant.0), c.slot_fired-w.ensures.1)

@@ -1,20 +1,15 @@
 -- `modem_steps::slots::slot_of_said` meets its contract.
-use Rattle.modem_steps.proofs.SlotLaws.{first_0, first_1, first_2, first_3, first_none}
+use borrow.Author.Rules.{rules}
+use borrow.Author.Tests.{tests}
 use lib.Dec.{eqb}
-use native.Mathlib.Omega.{arith}
+use Rattle.std.proofs.lemmas.Iterator.{YieldsList-from_slice, YieldsList-from_take}
+use Rattle.std.proofs.lemmas.Iterator.Search.{position_from_yields_List}
+use Rattle.modem_steps.proofs.SlotLaws.{first_found}
 use Rattle.modem_steps.proofs.slots.slot_of_said.Goals as goal
 
-pub returns-then-n-a : goal.returns-then-n-a
-returns-then-n-a c = (first_0 (λ t. eqb t.said c.args.said) c.args.m c.if-n-a.true, omega arith)
-
-pub returns-then-n-b : goal.returns-then-n-b
-returns-then-n-b c = (first_1 (λ t. eqb t.said c.args.said) c.args.m c.if-n-a.false c.if-n-b.true, omega arith)
-
-pub returns-then-n-c : goal.returns-then-n-c
-returns-then-n-c c = (first_2 (λ t. eqb t.said c.args.said) c.args.m c.if-n-a.false c.if-n-b.false c.if-n-c.true, omega arith)
-
-pub returns-then-n-d : goal.returns-then-n-d
-returns-then-n-d c = (first_3 (λ t. eqb t.said c.args.said) c.args.m c.if-n-a.false c.if-n-b.false c.if-n-c.false c.if-n-d.true, omega arith)
-
 pub returns : goal.returns
-returns c = (first_none (λ t. eqb t.said c.args.said) c.args.m c.if-n-a.false c.if-n-b.false c.if-n-c.false c.if-n-d.false, omega arith)
+returns c = let a = c.args in
+    first_found (λ t. eqb t.said a.said) a.m c.position.result c.unwrap_or.result (search rules)
+    (position_from_yields_List (λ t. eqb t.said a.said) _ _ c.position.result c.position.ensures.ran
+    (YieldsList-from_take a.m.used (YieldsList-from_slice a.m.teks cc) c.take.ensures.count) (λ x b q k. search (rules, tests)))
+    c.unwrap_or.ensures

@@ -3,4 +3,4 @@ use mathlib.Core.Path.{refl}
 use Rattle.modem_tek.proofs.parts.pair_of.Goals as goal
 
 pub returns : goal.returns
-returns c = simp (c.key_of-first.ensures, c.key_of-second.ensures) refl
+returns c = simp (c.key_of.ensures, c.key_of-2.ensures) refl

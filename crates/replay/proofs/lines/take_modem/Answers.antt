@@ -7,8 +7,8 @@ use Rattle.replay.proofs.lines.take_modem.Goals as goal
 
 pub returns : goal.returns
 returns c = record {
-  run = c.modem_read-replay.ensures ∙ ap (λ x. modem_read_of x c.args.s) c.read_modem-x.ensures;
-  count = c.put_modem-n.ensures.value.0 ∙ ap (λ x. length (modem_text x c.args.s)) c.read_modem-x.ensures;
-  short = c.put_modem-n.ensures.upper_bound;
-  written = c.put_modem-n.ensures.value.1 ∙ ap (λ x. overlay c.args.out.now (modem_text x c.args.s)) c.read_modem-x.ensures;
+  run = c.modem_read.ensures ∙ ap (λ x. modem_read_of x c.args.s) c.read_modem-x.ensures;
+  count = c.put_modem-count.ensures.value.0 ∙ ap (λ x. length (modem_text x c.args.s)) c.read_modem-x.ensures;
+  short = c.put_modem-count.ensures.upper_bound;
+  written = c.put_modem-count.ensures.value.1 ∙ ap (λ x. overlay c.args.out.now (modem_text x c.args.s)) c.read_modem-x.ensures;
 }

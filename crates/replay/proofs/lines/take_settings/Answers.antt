@@ -2,14 +2,17 @@
 use mathlib.Core.Path.{◌∙◌, ap}
 use lib.ListN.{length}
 use Rattle.key_traffic.specs.Octets.{overlay}
-use Rattle.replay_read.specs.declared.setup.ReadSettings.{ReadSettings}
+use Rattle.std.specs.Prelude.{Option, is_some}
+use Rattle.questions.specs.declared.settings.Settings.{Settings}
 use Rattle.replay.specs.Replay.{settings_read_of, start_text}
 use Rattle.replay.proofs.lines.take_settings.Goals as goal
 
 pub returns : goal.returns
-returns c = record {
-  run = c.settings_read-replay.ensures ∙ ap (λ x. settings_read_of x c.args.s) c.read_settings-x.ensures;
-  count = c.put_start-n.ensures.value.0 ∙ ap (λ (x : ReadSettings). length (start_text x.is_form)) c.read_settings-x.ensures;
-  short = c.put_start-n.ensures.upper_bound;
-  written = c.put_start-n.ensures.value.1 ∙ ap (λ (x : ReadSettings). overlay c.args.out.now (start_text x.is_form)) c.read_settings-x.ensures;
-}
+returns c =
+    let form = c.is_some.ensures ∙ ap (λ (x : Option Settings). is_some x) c.read_settings-x.ensures in
+    record {
+      run = c.settings_read.ensures ∙ ap (λ x. settings_read_of x c.args.s) c.read_settings-x.ensures;
+      count = c.put_start-count.ensures.value.0 ∙ ap (λ b. length (start_text b)) form;
+      short = c.put_start-count.ensures.upper_bound;
+      written = c.put_start-count.ensures.value.1 ∙ ap (λ b. overlay c.args.out.now (start_text b)) form;
+    }

@@ -3,4 +3,4 @@ use mathlib.Core.Path.{ap}
 use Rattle.replay.proofs.turn.no_call.Goals as goal
 
 pub returns : goal.returns
-returns c = (ap (λ k. record { count = k; ends = c.args.e }) c.put_no_call-n.ensures.0, c.put_no_call-n.ensures.1)
+returns c = (ap (λ k. record { count = k; ends = c.args.e }) c.put_no_call-count.ensures.0, c.put_no_call-count.ensures.1)

@@ -1,9 +1,10 @@
 -- `read_bare` meets its contract.
-use Rattle.replay_read.proofs.KindLaws.{bare_reads}
+use Rattle.std.proofs.Common.{rules}
+use Rattle.replay_read.proofs.CallLaws.{bare_reads}
 use Rattle.replay_read.proofs.call.read_bare.Goals as goal
 
+pub returns-then-c-ne-BARE_FIELDS : goal.returns-then-c-ne-BARE_FIELDS
+returns-then-c-ne-BARE_FIELDS c = bare_reads c.args.line.now c.args.c c.requires _ c.args.kind (search rules)
+
 pub returns : goal.returns
-returns c = let a = c.args in
-    let plain-call = c.plain_call-call in
-    let kept-alone = c.kept_alone in
-    bare_reads a.line.now a.c c.requires a.kind plain-call.result kept-alone.result plain-call.ensures kept-alone.ensures
+returns c = bare_reads c.args.line.now c.args.c c.requires _ c.args.kind (search rules)

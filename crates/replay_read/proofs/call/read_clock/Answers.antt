@@ -1,13 +1,19 @@
 -- `read_clock` meets its contract.
-use Rattle.replay_read.proofs.KindLaws.{clock_reads}
+use Rattle.std.proofs.Common.{rules}
+use Rattle.replay_read.proofs.CallLaws.{clock_reads}
 use Rattle.replay_read.proofs.call.read_clock.Goals as goal
 
+pub returns-then-c-ne-CLOCK_FIELDS : goal.returns-then-c-ne-CLOCK_FIELDS
+returns-then-c-ne-CLOCK_FIELDS c = clock_reads c.args.line.now c.args.c c.requires _ (search rules)
+
+pub returns-in_err-second : goal.returns-in_err-second
+returns-in_err-second c = clock_reads c.args.line.now c.args.c c.requires _ (search rules)
+
+pub returns-in_err-octets : goal.returns-in_err-octets
+returns-in_err-octets c = clock_reads c.args.line.now c.args.c c.requires _ (search rules)
+
+pub returns-in_err-key : goal.returns-in_err-key
+returns-in_err-key c = clock_reads c.args.line.now c.args.c c.requires _ (search rules)
+
 pub returns : goal.returns
-returns c = let a = c.args in
-    let number = c.number_of-at in
-    let octets-of = c.octets_of-material in
-    let octets-of2 = c.octets_of-write in
-    let plain-call = c.plain_call-call in
-    let no_place = c.no_place-none in
-    let kept = c.kept in
-    clock_reads a.line.now a.c c.requires number.result octets-of.result octets-of2.result plain-call.result no_place.result kept.result number.ensures octets-of.ensures octets-of2.ensures plain-call.ensures no_place.ensures kept.ensures
+returns c = clock_reads c.args.line.now c.args.c c.requires _ (search rules)

@@ -1,19 +1,19 @@
 -- `read_open_frame` meets its contract.
-use Rattle.replay_read.proofs.FrameKindLaws.{open_frame_reads}
+use Rattle.std.proofs.Common.{rules}
+use Rattle.replay_read.proofs.FrameLaws.{open_frame_reads}
 use Rattle.replay_read.proofs.frame.read_open_frame.Goals as goal
 
+pub returns-then-c-ne-OPEN_FRAME_FIELDS : goal.returns-then-c-ne-OPEN_FRAME_FIELDS
+returns-then-c-ne-OPEN_FRAME_FIELDS c = open_frame_reads c.args.line.now c.args.c c.requires _ c.args.kind (search rules)
+
+pub returns-in_err-call : goal.returns-in_err-call
+returns-in_err-call c = open_frame_reads c.args.line.now c.args.c c.requires _ c.args.kind (search rules)
+
+pub returns-in_err-write : goal.returns-in_err-write
+returns-in_err-write c = open_frame_reads c.args.line.now c.args.c c.requires _ c.args.kind (search rules)
+
+pub returns-in_err-octets : goal.returns-in_err-octets
+returns-in_err-octets c = open_frame_reads c.args.line.now c.args.c c.requires _ c.args.kind (search rules)
+
 pub returns : goal.returns
-returns c = let a = c.args in
-    let number = c.number_of-direction in
-    let number-of2 = c.number_of-address in
-    let number-of3 = c.number_of-said in
-    let number-of4 = c.number_of-number in
-    let octets-of = c.octets_of-write in
-    let octets-of2 = c.octets_of-octets in
-    let to-u8 = c.to_u8 in
-    let to-u16 = c.to_u16 in
-    let to-u82 = c.to_u8-2 in
-    let plain-call = c.plain_call-call in
-    let no_place = c.no_place-none in
-    let kept = c.kept in
-    open_frame_reads a.line.now a.c c.requires a.kind number.result number-of2.result number-of3.result number-of4.result octets-of.result octets-of2.result to-u8.result to-u16.result to-u82.result plain-call.result no_place.result kept.result number.ensures number-of2.ensures number-of3.ensures number-of4.ensures octets-of.ensures octets-of2.ensures to-u8.ensures to-u16.ensures to-u82.ensures plain-call.ensures no_place.ensures kept.ensures
+returns c = open_frame_reads c.args.line.now c.args.c c.requires _ c.args.kind (search rules)

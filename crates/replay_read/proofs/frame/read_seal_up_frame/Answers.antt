@@ -1,13 +1,16 @@
 -- `read_seal_up_frame` meets its contract.
-use Rattle.replay_read.proofs.FrameKindLaws.{seal_up_frame_reads}
+use Rattle.std.proofs.Common.{rules}
+use Rattle.replay_read.proofs.FrameLaws.{seal_up_frame_reads}
 use Rattle.replay_read.proofs.frame.read_seal_up_frame.Goals as goal
 
+pub returns-then-c-ne-SEAL_UP_FRAME_FIELDS : goal.returns-then-c-ne-SEAL_UP_FRAME_FIELDS
+returns-then-c-ne-SEAL_UP_FRAME_FIELDS c = seal_up_frame_reads c.args.line.now c.args.c c.requires _ (search rules)
+
+pub returns-in_err-call : goal.returns-in_err-call
+returns-in_err-call c = seal_up_frame_reads c.args.line.now c.args.c c.requires _ (search rules)
+
+pub returns-in_err-octets : goal.returns-in_err-octets
+returns-in_err-octets c = seal_up_frame_reads c.args.line.now c.args.c c.requires _ (search rules)
+
 pub returns : goal.returns
-returns c = let a = c.args in
-    let number = c.number_of-said in
-    let octets-of = c.octets_of-octets in
-    let to-u16 = c.to_u16 in
-    let plain-call = c.plain_call-call in
-    let no_place = c.no_place-none in
-    let kept = c.kept in
-    seal_up_frame_reads a.line.now a.c c.requires number.result octets-of.result to-u16.result plain-call.result no_place.result kept.result number.ensures octets-of.ensures to-u16.ensures plain-call.ensures no_place.ensures kept.ensures
+returns c = seal_up_frame_reads c.args.line.now c.args.c c.requires _ (search rules)

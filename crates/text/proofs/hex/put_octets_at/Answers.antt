@@ -1,34 +1,32 @@
--- `put_octets_at` meets its contract. The invariant: so many octets are decoded.
-use mathlib.Core.Path.{refl, ap, ◌∙◌}
-use Prim.Native.Nat.{◌*◌, ◌≤◌}
-use native.Mathlib.Omega.{arith}
-use lib.ListN.{length, take, drop, length-set}
-use lib.Seq.{take_all}
+-- `put_octets_at` meets its contract.
+use Rattle.std.proofs.Common.{◌≡◌, ◌≤◌, ◌<◌, ◌*◌, ◌+◌, ap, ◌∙◌, ℕ, List, [], arith, length, take, drop, get_or}
+use Rattle.std.proofs.Math.ListN.{length-set}
+use Rattle.std.proofs.Math.Seq.{take_all}
 use Rattle.key_traffic.specs.Octets.{overlay}
-use Rattle.text.specs.Hex.{octets_value}
-use Rattle.text.proofs.HexLaws.{decoded, decoded_length}
+use Rattle.std.specs.Simd.{first_chunks}
+use Rattle.text.specs.Hex.{hex_value_of, octets_value}
+use Rattle.text.proofs.HexLaws.{octet_at, digits_length, pairs_are, decoded, decoded_length}
 use Rattle.text.proofs.hex.put_octets_at.Goals as goal
 
-pub loop-i-init : goal.loop-i-init
-loop-i-init c = (omega arith, (refl, refl))
-
-pub overflow_mul-out : goal.overflow_mul-out
-overflow_mul-out c = omega (arith, c.hex_value-high.ensures.1)
-
-pub overflow_add-out : goal.overflow_add-out
-overflow_add-out c = omega (arith, c.hex_value-high.ensures.1, c.hex_value-low.ensures.1)
-
 pub loop-i-preserved : goal.loop-i-preserved
-loop-i-preserved c = let l = c.loop-i in
+loop-i-preserved c =
+    let l = c.loop-i in
     let a = c.args in
-    let hex-value = c.hex_value-high in
-    let hex-value2 = c.hex_value-low in
-    (omega arith, (simp length-set l.invariant.1.0, decoded a.line.now a.at a.count c.requires.0 a.out.now l.out l.i hex-value.result hex-value2.result (omega arith) c.requires.1 hex-value.ensures.0 hex-value2.ensures.0 l.invariant.1.1))
-
-pub shape_of-out : goal.shape_of-out
-shape_of-out c = c.loop-i.invariant.1.0
+    let digits = take (2 * a.count) (drop a.at a.line.now) in
+    let two : length digits ≡ 2 * a.count = digits_length a.line.now a.at a.count c.requires.0 in
+    let pairs : c.as_chunks.result.0.now ≡ first_chunks 2 a.count digits = c.as_chunks.ensures.front ∙ pairs_are a.line.now a.at a.count c.requires.0 in
+    let small : l.i < a.count = omega (arith, c.as_chunks.ensures.front_len) in
+    let here : c.octet.result ≡ get_or (octets_value digits) l.i 0 =
+    c.octet.ensures
+    ∙ ap (λ (p : List (List ℕ)). hex_value_of (get_or (get_or p l.i []) 0 0) * 16 + hex_value_of (get_or (get_or p l.i []) 1 0)) pairs
+    ∙ octet_at a.count digits l.i two small in
+    (simp length-set l.invariant.0, decoded a.line.now a.at a.count c.requires.0 a.out.now l.out l.i c.octet.result small c.requires.1 here l.invariant.1)
 
 pub returns : goal.returns
-returns c = let a = c.args in
+returns c =
+    let a = c.args in
     let l = c.loop-i in
-    let all : length (octets_value (take (2 * a.count) (drop a.at a.line.now))) ≤ l.i = omega (arith, decoded_length a.line.now a.at a.count c.requires.0) in l.invariant.1.1 ∙ ap (overlay a.out.now) (take_all l.i (octets_value (take (2 * a.count) (drop a.at a.line.now))) all)
+    let o = octets_value (take (2 * a.count) (drop a.at a.line.now)) in
+    let two : length (take (2 * a.count) (drop a.at a.line.now)) ≡ 2 * a.count = digits_length a.line.now a.at a.count c.requires.0 in
+    let all : length o ≤ l.i = omega (arith, decoded_length a.line.now a.at a.count c.requires.0, c.as_chunks.ensures.front_len) in
+    l.invariant.1 ∙ ap (overlay a.out.now) (take_all l.i o all)

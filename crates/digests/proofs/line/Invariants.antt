@@ -1,9 +1,0 @@
--- `digests::line` meets its contract.
-use Prim.Native.Nat.{◌-◌, ◌≤◌}
-use Rattle.digests.proofs.line.Given as goal
-
-abbrev pub invariant-loop-i : goal.invariant-loop-i
-invariant-loop-i l = (l.i ≤ 20)
-
-abbrev pub decreases-loop-i : goal.decreases-loop-i
-decreases-loop-i l = 20 - l.i

@@ -1,6 +1,0 @@
--- `message_writer::limits::error_fits` meets its contract.
-
-use Rattle.message_writer.proofs.limits.error_fits.Goals as goal
-
-pub returns : goal.returns
-returns c = simp (c.carried_or.ensures, c.is_required.ensures)
