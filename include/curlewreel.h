@@ -41,8 +41,8 @@
  *   run at the same time. One state is one caller's: two calls on copies of it make two states, of which one is lost.
  * - Structs have the C compiler's padding, which is not kept: compare states field by field. They need no alignment beyond their members'.
  *   The archive is for x86-64 with the System V calling convention, and there is none for another machine.
- * - The deepest call is curlewreel_modem_receive: 16,048 octets of stack, added up in the archive's machine code (outside/depth), and 664 for the
- *   state that it gets by value; at the head-end curlewreel_headend_open, 12,688 and 1,136. No call recurses, and none takes more for longer
+ * - The deepest call is curlewreel_modem_receive: 15,984 octets of stack, added up in the archive's machine code (outside/depth), and 664 for the
+ *   state that it gets by value; at the head-end curlewreel_headend_open, 12,320 and 1,136. No call recurses, and none takes more for longer
  *   input.
  * - Keys stay on the dead stack after a call, as in each copy of a state or a record. curlewreel_wipe_stack overwrites the one, the copies are
  *   yours to clear. */
