@@ -1,5 +1,6 @@
 -- Laws of reading a line step by step: each step beside the test that the form makes of the same field.
-use Rattle.std.proofs.Common.{◌≡◌, refl, sym, ap, ◌∙◌, subst, List, [], ℕ, ◌+◌, ◌*◌, ◌-◌, ◌/◌, ◌≤◌, Bool, true, false, ◌&&◌, cond, Option, None, Some, arith, length, drop}
+use Rattle.std.proofs.Common.{◌≡◌, refl, sym, ap, ◌∙◌, subst, List, [], ℕ, ◌+◌, ◌*◌, ◌-◌, ◌/◌, ◌≤◌, Bool, true, false, ◌&&◌, cond, Option, None, Some, arith, length, drop, nat_eq, ◌≢◌}
+use borrow.Author.Tests.{ne_eqb}
 use lib.Seq.{take-take}
 use Rattle.std.specs.Bool.{then_some}
 use Rattle.std.specs.Prelude.{option_and_then}
@@ -43,6 +44,10 @@ place_says l f t h =
     }
 
 -- ---- steps
+
+-- a line of another number of fields says no call
+pub other_count : (r : Option ReadCall) (n k : ℕ) → n ≢ k → None ≡ cond (nat_eq n k) r None
+other_count r n k h = sym (ap (λ (b : Bool). cond b r None) (ne_eqb n k h))
 
 -- `Reads` of a call that is said where tests hold
 pub record Told (l : List ℕ) (b : Bool) (said : LineCall) (r : Option ReadCall) : Type 0 where
